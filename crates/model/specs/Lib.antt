@@ -1,0 +1,4 @@
+pub mod Actions
+pub mod Graphs
+pub mod Automata
+pub mod Runs
