@@ -1,7 +1,8 @@
--- The number of each refusal and of each layer.
-use Prim.Native.Nat.{ℕ}
+-- The number of each refusal and of each layer, and the byte of a bundle where a fault lies.
+use Prim.Native.Nat.{ℕ, _+_}
 use Rattle.refusal.specs.declared.Layer.{Layer}
 use Rattle.refusal.specs.declared.Layer.the-variants.{Bundle, Content}
+use Rattle.refusal.specs.declared.PlacedFault.{PlacedFault}
 use Rattle.refusal.specs.declared.Refusal.{Refusal}
 use Rattle.refusal.specs.declared.Refusal.the-variants.{BundleSize, FieldPastEnd, FieldOrder, ContentLength, OutOfRange, TooMany, TableSize, Budget, ShortBuffer, NotIdle, StillIdle, Decided, NotBroken, OtherTable}
 
@@ -24,3 +25,7 @@ number OtherTable = 45
 abbrev pub layer-number : Layer → ℕ
 layer-number Bundle = 1
 layer-number Content = 2
+
+-- where the fault lies in what its layer was handed, and that in the bundle
+abbrev pub byte-in-bundle : PlacedFault → ℕ
+byte-in-bundle p = p .fault .byte + p .place

@@ -1,7 +1,7 @@
 //! Why a call is refused: every numbered refusal of the checker, and where a fault in handed bytes lies.
 
 ghost use mathlib.Core.Path.{_≡_};
-ghost use Rattle.refusal.specs.Numbers.{number, layer-number};
+ghost use Rattle.refusal.specs.Numbers.{number, layer-number, byte-in-bundle};
 
 /// Every refusal, with the number by which it is known.
 #[derive(Clone, Copy)]
@@ -52,6 +52,23 @@ pub struct Fault {
     pub refusal: Refusal,
     pub layer: Layer,
     pub byte: u32,
+}
+
+/// A fault as it was found, and beside it the place in the bundle of what its layer was handed: the byte where the
+/// field's content begins, or 0 for a fault of the bundle itself.
+#[derive(Clone, Copy)]
+pub struct PlacedFault {
+    pub fault: Fault,
+    pub place: u32,
+}
+
+impl PlacedFault {
+    /// The byte of the bundle where the fault lies.
+    pub fn byte(self) -> u64
+        ensures { λ r. ⌜ r ≡ byte-in-bundle self ⌝ }
+    {
+        u64::from(self.fault.byte) + u64::from(self.place)
+    }
 }
 
 impl Refusal {
