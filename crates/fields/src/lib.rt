@@ -63,12 +63,12 @@ impl<'a> Fields<'a> {
             return Ok(None);
         }
         if bytes.len() - at < HEADER {
-            return Err(fault_of_bundle(Refusal::FieldPastEnd, at as u32));
+            return Err(bundle_fault(Refusal::FieldPastEnd, at as u32));
         }
         let place = at + HEADER;
         let len = usize::from(word_at(bytes, at + 1));
         if bytes.len() - place < len {
-            return Err(fault_of_bundle(Refusal::FieldPastEnd, at as u32));
+            return Err(bundle_fault(Refusal::FieldPastEnd, at as u32));
         }
         self.at = place + len;
         Ok(Some(Field {
@@ -84,7 +84,7 @@ impl<'a> Fields<'a> {
         ensures bytes { λ _. ⌜ now (self .exit) .bytes ≡ now (self .entry) .bytes ⌝ }
     {
         let Some(field) = self.due(tag)? else {
-            return Err(fault_of_bundle(Refusal::FieldOrder, self.at as u32));
+            return Err(bundle_fault(Refusal::FieldOrder, self.at as u32));
         };
         Ok(field)
     }
@@ -94,7 +94,7 @@ impl<'a> Fields<'a> {
         ensures { λ r. ⌜ r ≡ ended (now (now (self .entry) .bytes)) (now (self .entry) .at) ⌝ }
     {
         if self.at < self.bytes.len() {
-            return Err(fault_of_bundle(Refusal::FieldOrder, self.at as u32));
+            return Err(bundle_fault(Refusal::FieldOrder, self.at as u32));
         }
         Ok(())
     }
@@ -105,13 +105,13 @@ pub fn check_size(bytes: &[u8]) -> Result<(), PlacedFault>
     ensures { λ r. ⌜ r ≡ sized (now (bytes .entry)) ⌝ }
 {
     if bytes.len() == 0 || bytes.len() > MAX_BUNDLE {
-        return Err(fault_of_bundle(Refusal::BundleSize, 0));
+        return Err(bundle_fault(Refusal::BundleSize, 0));
     }
     Ok(())
 }
 
 /// A fault of the bundle itself.
-fn fault_of_bundle(refusal: Refusal, byte: u32) -> PlacedFault
+pub fn bundle_fault(refusal: Refusal, byte: u32) -> PlacedFault
     ensures { λ r. ⌜ r ≡ bundle-fault refusal byte ⌝ }
 {
     PlacedFault {

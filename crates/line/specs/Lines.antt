@@ -11,6 +11,14 @@ use Rattle.line.specs.declared.Line.the-variants.{Broken, Holds, Full, Fault}
 use Rattle.line.specs.declared.Trace.{Trace}
 use Rattle.line.specs.Letters.{letters}
 
+-- the most actions that a printed trace has
+abbrev pub most-trace : ℕ
+most-trace = 1024
+
+-- the trace of the first actions of a buffer
+abbrev pub trace-of : List ℕ → ℕ → Trace
+trace-of buffer len = record { buffer = buffer; len = len }
+
 -- the actions of a trace, in order
 abbrev pub actions-of : Trace → List ℕ
 actions-of t = take (t .len) (t .buffer)

@@ -2,10 +2,9 @@
 
 ghost use mathlib.Core.Path.{_≡_};
 ghost use denote.Ref.{now};
-ghost use lib.ListN.{take};
 ghost use Rattle.std.specs.declared.option.Option.the-variants.{Some};
 ghost use Rattle.line.specs.Letters.{letter, letters};
-ghost use Rattle.line.specs.Lines.{actions-of, line-bytes};
+ghost use Rattle.line.specs.Lines.{actions-of, line-bytes, trace-of};
 use model::ACTIONS;
 use refusal::PlacedFault;
 use std::fmt;
@@ -36,7 +35,7 @@ pub struct Trace {
 impl Trace {
     /// The first `len` actions of the buffer; all of them where it has fewer.
     pub fn new(buffer: [u8; MAX_TRACE], len: u32) -> Trace
-        ensures { λ r. ⌜ actions-of r ≡ take len buffer ⌝ }
+        ensures { λ r. ⌜ r ≡ trace-of buffer len ⌝ }
     {
         Trace { buffer, len }
     }

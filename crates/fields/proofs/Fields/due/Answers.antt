@@ -14,12 +14,12 @@ returns-then-at-bytes c =
 pub returns-then-bytes-at-lt-HEADER : need.returns-then-bytes-at-lt-HEADER
 returns-then-bytes-at-lt-HEADER c =
     let cut = due-cut _ _ _ (c .if-at-bytes .left) (c .if-bytes-at .left) (inl (omega arith)) in
-    record { value = ap Err (c .fault-of-bundle .ensures) ∙ sym cut; at = refl; bytes = refl }
+    record { value = ap Err (c .bundle-fault .ensures) ∙ sym cut; at = refl; bytes = refl }
 
 pub returns-then-bytes-place : need.returns-then-bytes-place
 returns-then-bytes-place c =
     let cut = due-cut _ _ _ (c .if-at-bytes .left) (c .if-bytes-at .left) (inr (omega arith)) in
-    record { value = ap Err (c .fault-of-bundle-then-bytes-place .ensures) ∙ sym cut; at = refl; bytes = refl }
+    record { value = ap Err (c .bundle-fault-then-bytes-place .ensures) ∙ sym cut; at = refl; bytes = refl }
 
 pub returns : need.returns
 returns c =

@@ -5,7 +5,7 @@ use Rattle.fields.proofs.Ending.{ended-not, ended-well}
 use Rattle.fields.proofs.Fields.end.Needs as need
 
 pub returns-then-self : need.returns-then-self
-returns-then-self c = ap Err (c .fault-of-bundle .ensures) ∙ sym (ended-not _ _ (c .if-self .taken))
+returns-then-self c = ap Err (c .bundle-fault .ensures) ∙ sym (ended-not _ _ (c .if-self .taken))
 
 pub returns : need.returns
 returns c = sym (ended-well _ _ (c .if-self .left))

@@ -1,0 +1,3 @@
+mod Chaining
+mod Framing
+pub mod Accepting

@@ -1,0 +1,4 @@
+mod Finishing
+mod Judging
+mod Fresh
+mod Composing

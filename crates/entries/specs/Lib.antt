@@ -1,0 +1,5 @@
+pub mod Limits
+pub mod Entries
+pub mod Keys
+pub mod Faults
+pub mod Clear
