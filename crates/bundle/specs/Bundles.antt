@@ -18,6 +18,8 @@ use Rattle.words.specs.Words.{word}
 use Rattle.fields.specs.Fields.{Piece, due-at, ended, needed, past, sized}
 use Rattle.sheet.specs.Sheets.{sheet-fault}
 use Rattle.watch_table.specs.Tables.{table-fault}
+use Rattle.bundle.specs.declared.Kind.{Kind}
+use Rattle.bundle.specs.declared.Kind.the-variants.{Sheet, WatchTable}
 use Rattle.bundle.specs.declared.Parts.{Parts}
 
 abbrev pub most-cells : ℕ
@@ -67,18 +69,17 @@ allowed p n = cond (leb 1 n && leb n most-cells) (Ok n) (Err (content-fault OutO
 abbrev pub field : List ℕ → ℕ → ℕ → Result Piece PlacedFault
 field bytes at tag = needed at (due-at bytes at tag)
 
+-- the first fault of a content, by what it is to describe
+abbrev pub kind-fault : Kind → List ℕ → Option Fault
+kind-fault Sheet content = sheet-fault content
+kind-fault WatchTable content = table-fault content
+
 -- a field whose content has no fault
 unfoldable pub checked-at : (List ℕ → Option Fault) → List ℕ → ℕ → ℕ → Result (Got (List ℕ)) PlacedFault
 checked-at fault bytes at tag =
     then (field bytes at tag) (λ p.
     then (lifted (p .place) (fault (p .content))) (λ _.
     Ok (got (p .content) (past p))))
-
-abbrev pub sheet-at : List ℕ → ℕ → Result (Got (List ℕ)) PlacedFault
-sheet-at bytes at = checked-at sheet-fault bytes at machine-tag
-
-abbrev pub table-at : List ℕ → ℕ → Result (Got (List ℕ)) PlacedFault
-table-at bytes at = checked-at table-fault bytes at watcher-tag
 
 unfoldable pub cells-at : List ℕ → ℕ → Result (Got ℕ) PlacedFault
 cells-at bytes at =
@@ -96,8 +97,8 @@ pub record Contents : Type 0 where
 unfoldable pub bundle-of : List ℕ → Result Contents PlacedFault
 bundle-of bytes =
     then (sized bytes) (λ _.
-    then (sheet-at bytes 0) (λ m.
-    then (table-at bytes (m .next)) (λ w.
+    then (checked-at (kind-fault Sheet) bytes 0 machine-tag) (λ m.
+    then (checked-at (kind-fault WatchTable) bytes (m .next) watcher-tag) (λ w.
     then (cells-at bytes (w .next)) (λ t.
     then (ended bytes (t .next)) (λ _.
     Ok (record { machine = m .value; watcher = w .value; cells = t .value }))))))

@@ -6,7 +6,7 @@ ghost use mathlib.Core.Path.{_≡_};
 ghost use denote.Ref.{now};
 ghost use Rattle.fields.specs.Fields.{piece, told};
 ghost use Rattle.bundle.specs.Accepted.{Accepts};
-ghost use Rattle.bundle.specs.Bundles.{allowed, bundle-of, cells-at, content-fault, contents, got, lifted, long, sheet-at, table-at};
+ghost use Rattle.bundle.specs.Bundles.{allowed, bundle-of, cells-at, checked-at, content-fault, contents, got, kind-fault, lifted, long};
 use fields::Field;
 use fields::Fields;
 use fields::check_size;
@@ -36,8 +36,8 @@ pub fn read<'a>(bytes: &'a [u8]) -> Result<Parts<'a>, PlacedFault>
 {
     check_size(bytes)?;
     let mut fields = Fields::new(bytes);
-    let machine = take_sheet(&mut fields)?;
-    let watcher = take_watch_table(&mut fields)?;
+    let machine = take_checked(&mut fields, b'M', Kind::Sheet)?;
+    let watcher = take_checked(&mut fields, b'W', Kind::WatchTable)?;
     let cells = take_cells(&mut fields)?;
     fields.end()?;
     Ok(Parts {
@@ -47,23 +47,32 @@ pub fn read<'a>(bytes: &'a [u8]) -> Result<Parts<'a>, PlacedFault>
     })
 }
 
-/// The content of the field M, which is a sheet.
-fn take_sheet<'a>(fields: &mut Fields<'a>) -> Result<&'a [u8], PlacedFault>
-    ensures value { λ r. ⌜ told (λ s. got (now s) (now (fields .exit) .at)) r ≡ sheet-at (now (now (fields .entry) .bytes)) (now (fields .entry) .at) ⌝ }
-    ensures bytes { λ _. ⌜ now (fields .exit) .bytes ≡ now (fields .entry) .bytes ⌝ }
-{
-    let field = fields.take(b'M')?;
-    pass_up(sheet::first_fault(field.content), field.place)?;
-    Ok(field.content)
+/// What the content of a field describes.
+#[derive(Clone, Copy)]
+enum Kind {
+    Sheet,
+    WatchTable,
 }
 
-/// The content of the field W, which is a watch table.
-fn take_watch_table<'a>(fields: &mut Fields<'a>) -> Result<&'a [u8], PlacedFault>
-    ensures value { λ r. ⌜ told (λ s. got (now s) (now (fields .exit) .at)) r ≡ table-at (now (now (fields .entry) .bytes)) (now (fields .entry) .at) ⌝ }
+impl Kind {
+    /// The first fault of a content that is to be of this kind, if it has one.
+    fn first_fault(self, content: &[u8]) -> Option<Fault>
+        ensures { λ r. ⌜ r ≡ kind-fault self (now (content .entry)) ⌝ }
+    {
+        match self {
+            Kind::Sheet => sheet::first_fault(content),
+            Kind::WatchTable => watch_table::first_fault(content),
+        }
+    }
+}
+
+/// The content of the field with this tag, which is of this kind.
+fn take_checked<'a>(fields: &mut Fields<'a>, tag: u8, kind: Kind) -> Result<&'a [u8], PlacedFault>
+    ensures value { λ r. ⌜ told (λ s. got (now s) (now (fields .exit) .at)) r ≡ checked-at (kind-fault kind) (now (now (fields .entry) .bytes)) (now (fields .entry) .at) tag ⌝ }
     ensures bytes { λ _. ⌜ now (fields .exit) .bytes ≡ now (fields .entry) .bytes ⌝ }
 {
-    let field = fields.take(b'W')?;
-    pass_up(watch_table::first_fault(field.content), field.place)?;
+    let field = fields.take(tag)?;
+    pass_up(kind.first_fault(field.content), field.place)?;
     Ok(field.content)
 }
 

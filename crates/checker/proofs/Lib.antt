@@ -1,4 +1,3 @@
-mod Finishing
 mod Judging
 mod Fresh
 mod Composing

@@ -5,10 +5,10 @@ use lib.ListN.{length}
 use Rattle.inspection.specs.declared.search.Report.{Report}
 use Rattle.inspection.specs.Limits.{most-cells}
 use Rattle.inspection.specs.Searches.{Snapshot, after, is-open}
+use Rattle.inspection.proofs.Cases.{not-open}
 use Rattle.inspection.proofs.Completion.{advance-fewer, advance-runs, begin-runs, run-final}
 use Rattle.checker.specs.Checked.{verdict-line}
 use Rattle.checker.specs.Judged.{Judges}
-use Rattle.checker.proofs.Finishing.{not-open}
 use Rattle.checker.proofs.Judging.{judges}
 use Rattle.checker.proofs.inspect.Needs as need
 

@@ -1,7 +1,7 @@
 use mathlib.Core.Path.{ap, _∙_}
 use Rattle.bundle.specs.Bundles.{checked-at, lifted}
 use Rattle.bundle.proofs.Chaining.{go, stop, out, stand}
-use Rattle.bundle.proofs.take_sheet.Needs as need
+use Rattle.bundle.proofs.take_checked.Needs as need
 
 pub returns-in-Break-field : need.returns-in-Break-field
 unfolding checked-at
