@@ -5,6 +5,7 @@
 
 ghost use mathlib.Core.Path.{_≡_};
 ghost use Prim.Native.Nat.{_≤_};
+ghost use Rattle.fields.specs.Fields.{most-bundle};
 ghost use Rattle.cases.specs.Digits.{digit-value};
 use checker::check;
 use fields::MAX_BUNDLE;
@@ -24,7 +25,7 @@ struct Draft {
     high: Option<u8>,
     /// Whether the line is one to be printed as it is.
     comment: bool,
-    ghost within: { len ≤ 32768 },
+    ghost within: { len ≤ most-bundle },
 }
 
 impl Draft {

@@ -1,10 +1,12 @@
 //! The one line that a check prints.
 
 ghost use mathlib.Core.Path.{_≡_};
+ghost use Prim.Native.Nat.{_≤_};
 ghost use denote.Ref.{now};
+ghost use lib.ListN.{length};
 ghost use Rattle.std.specs.declared.option.Option.the-variants.{Some};
 ghost use Rattle.line.specs.Letters.{letter, letters};
-ghost use Rattle.line.specs.Lines.{actions-of, line-bytes, trace-of};
+ghost use Rattle.line.specs.Lines.{actions-of, line-bytes, most-trace, trace-of};
 use model::ACTIONS;
 use refusal::PlacedFault;
 use std::fmt;
@@ -40,9 +42,10 @@ impl Trace {
         Trace { buffer, len }
     }
 
-    /// The actions, in order.
+    /// The actions, in order; there are at most 1,024.
     pub fn actions(&self) -> &[u8]
-        ensures { λ r. ⌜ now r ≡ actions-of (now (self .entry)) ⌝ }
+        ensures actions { λ r. ⌜ now r ≡ actions-of (now (self .entry)) ⌝ }
+        ensures few { λ r. ⌜ length (now r) ≤ most-trace ⌝ }
     {
         let len = self.len as usize;
         if len < MAX_TRACE {

@@ -6,12 +6,12 @@ use Rattle.line.proofs.LineDisplay.fmt.Needs as need
 pub returns-then-is-empty : need.returns-then-is-empty
 returns-then-is-empty g c = λ plain ok.
     put-is (g .W·Write .took) _ _ _ _
-    (broken-bare _ _ _ _ _ (c .in-Broken .is) (after-none _ _ (c .actions .ensures) (c .if-is-empty .ensures tt)))
+    (broken-bare _ _ _ _ _ (c .in-Broken .is) (after-none _ _ (c .actions .ensures .actions) (c .if-is-empty .ensures tt)))
     (c .in-Continue-write .ensures tt .shows plain refl)
 
 pub returns-else-is-empty : need.returns-else-is-empty
 returns-else-is-empty g c = λ plain ok.
     let front = c .in-Continue-write .ensures tt .shows plain refl in
     put-is (g .W·Write .took) _ _ _ _
-    (broken-whole _ _ _ _ _ _ (c .in-Broken .is) (after-some _ _ (c .actions .ensures) (c .if-is-empty .ensures tt)))
+    (broken-whole _ _ _ _ _ _ (c .in-Broken .is) (after-some _ _ (c .actions .ensures .actions) (c .if-is-empty .ensures tt)))
     (put-more (g .W·Write .took) _ _ _ _ _ front (c .write-else-is-empty .ensures .shows (front .plain) ok))

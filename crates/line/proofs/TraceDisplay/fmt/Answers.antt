@@ -15,11 +15,11 @@ loop-action-again g c = λ plain.
     let before = c .loop-action .inv plain in
     let here = c .in-Continue-write-char .ensures tt .prints (before .plain) refl in
     put-is took _ _ _ _
-    (letters-more _ _ _ _ (c .actions-action-items .ensures) (c .letter-of .ensures) (c .loop-action-test .taken))
+    (letters-more _ _ _ _ (c .actions-action-items .ensures .actions) (c .letter-of .ensures) (c .loop-action-test .taken))
     (put-more took _ _ _ _ _ before here)
 
 pub returns : need.returns
 returns g c = λ plain ok.
     put-is (g .W·Write .took) _ _ _ _
-    (ap (λ l. letters (take (c .loop-action .action-index) l)) (sym (c .actions-action-items .ensures)) ∙ ap letters (take-all _ _ (c .loop-action-test .left)) ∙ ap letters (c .actions-action-items .ensures))
+    (ap (λ l. letters (take (c .loop-action .action-index) l)) (sym (c .actions-action-items .ensures .actions)) ∙ ap letters (take-all _ _ (c .loop-action-test .left)) ∙ ap letters (c .actions-action-items .ensures .actions))
     (c .loop-action .inv plain)
