@@ -1,3 +1,4 @@
+mod Turns
 mod Judging
 mod Fresh
 mod Composing
