@@ -1,5 +1,9 @@
 //! Reads a bundle from standard input, and prints the one line that it comes to.
 
+ghost use mathlib.Core.Path.{_≡_};
+ghost use Prim.Native.Nat.{_+_};
+ghost use lib.ListN.{replicate};
+ghost use Rattle.fields.specs.Fields.{most-bundle};
 use checker::check;
 use fields::MAX_BUNDLE;
 use input::fill;
@@ -15,8 +19,15 @@ fn main(rt: LibcRuntime) -> io::Result<()> {
 
 /// Reads, calls and prints.
 fn run(rt: &LibcRuntime) -> io::Result<()> {
-    let mut room = [0; ROOM];
+    let mut room = empty_room();
     let len = fill(&mut rt.stdin(), &mut room)?;
     let line = check(&room[0..len]);
     println!(rt, "{line}")
+}
+
+/// Room for a bundle and one byte more, all 0.
+fn empty_room() -> [u8; ROOM]
+    ensures { λ r. ⌜ r ≡ replicate (most-bundle + 1) 0 ⌝ }
+{
+    [0; ROOM]
 }

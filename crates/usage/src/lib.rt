@@ -8,7 +8,7 @@ ghost use lib.ListN.{length};
 ghost use Rattle.inspection.specs.Limits.{most-cells};
 ghost use Rattle.inspection.specs.Searches.{begun, reported};
 ghost use Rattle.sheet.specs.Sheets.{sheet-meaning};
-ghost use Rattle.usage.specs.Again.{begun-again};
+ghost use Rattle.usage.specs.Again.{begun-again, cells-begun};
 use inspection::Cell;
 use inspection::Inspection;
 use inspection::Report;
@@ -31,7 +31,8 @@ pub fn size_then_overwrite(bytes: &mut [u8; 4]) -> u32
 
 /// The report of one inspection over one table that is begun, cleared and begun again.
 pub fn begin_again<M: Machine, W: Watcher>(machine: &M, watcher: &W, cells: &mut [Cell]) -> Report
-    ensures { λ r. ⌜ r ≡ begun-again (graph (now (machine .entry))) (automaton (now (watcher .entry))) (now (cells .entry)) ⌝ }
+    ensures report { λ r. ⌜ r ≡ begun-again (graph (now (machine .entry))) (automaton (now (watcher .entry))) (now (cells .entry)) ⌝ }
+    ensures cells { λ _. ⌜ now (cells .exit) ≡ cells-begun (graph (now (machine .entry))) (automaton (now (watcher .entry))) (now (cells .entry)) ⌝ }
 {
     let mut inspection = Inspection::new();
     let _ = inspection.begin(machine, watcher, cells);
