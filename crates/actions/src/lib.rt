@@ -1,5 +1,7 @@
 //! Sets of actions, and maps from actions to actions.
 
+#![tactic(auto)]
+
 ghost use Rattle.std.specs.Prelude.{◌≡◌, ◌==◌};
 ghost use Rattle.actions.specs.Maps.{IntoActions, identity, image, map_fault, map_meaning};
 ghost use Rattle.actions.specs.Sets.{in_set};

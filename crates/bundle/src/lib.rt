@@ -2,6 +2,8 @@
 //!
 //! The fields are M (the machine, a sheet), W (the watcher, a watch table) and T (the number of cells), in this order.
 
+#![tactic(auto)]
+
 ghost use Rattle.std.specs.Prelude.{◌≡◌};
 ghost use Rattle.fields.specs.Fields.{piece, told};
 ghost use Rattle.bundle.specs.Accepted.{Accepts};

@@ -3,6 +3,8 @@
 //! Each line of standard input is one bundle in hexadecimal: two digits make a byte, and all else is passed over. A
 //! line that begins with `#` is printed as it is.
 
+#![tactic(auto)]
+
 ghost use Rattle.std.specs.Prelude.{◌≡◌, ◌≤◌};
 ghost use Rattle.fields.specs.Fields.{most_bundle};
 ghost use Rattle.cases.specs.Digits.{digit_value};

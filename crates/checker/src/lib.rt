@@ -1,5 +1,7 @@
 //! A whole check: from the bytes of a bundle to the line that is printed.
 
+#![tactic(auto)]
+
 ghost use Rattle.std.specs.Prelude.{◌≡◌, ◌≤◌, length, replicate};
 ghost use Rattle.inspection.specs.Cells.{blank};
 ghost use Rattle.line.specs.Lines.{most_trace};

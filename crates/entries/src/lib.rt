@@ -1,5 +1,7 @@
 //! Entries of five bytes, read where they stand, each with a key: their first fault, and an index that finds them.
 
+#![tactic(auto)]
+
 ghost use Rattle.std.specs.Prelude.{◌≡◌, ◌<◌};
 ghost use Rattle.entries.specs.Entries.{entry_number, entry_count, key_of};
 ghost use Rattle.entries.specs.Keys.{key_at};

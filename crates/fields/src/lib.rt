@@ -2,6 +2,8 @@
 //!
 //! A field is a tag byte, a two-byte length (the high byte first) and that many bytes of content.
 
+#![tactic(auto)]
+
 ghost use Rattle.std.specs.Prelude.{◌≡◌, ◌≤◌, length, take};
 ghost use Rattle.fields.specs.Fields.{bundle_fault, due_at, ended, most_bundle, moved, needed, piece, pieced, sized, stood, told};
 

@@ -1,5 +1,7 @@
 //! Reading an input that may never end.
 
+#![tactic(auto)]
+
 ghost use Rattle.std.specs.Prelude.{◌≤◌, length, IfOk};
 
 use std::io;

@@ -1,5 +1,7 @@
 //! Reads a bundle from standard input, and prints the one line that it comes to.
 
+#![tactic(auto)]
+
 ghost use Rattle.std.specs.Prelude.{◌≡◌, ◌+◌, replicate};
 ghost use Rattle.fields.specs.Fields.{most_bundle};
 

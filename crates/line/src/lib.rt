@@ -1,5 +1,7 @@
 //! The one line that a check prints.
 
+#![tactic(auto)]
+
 ghost use Rattle.std.specs.Prelude.{◌≡◌, ◌≤◌, length, Some};
 ghost use Rattle.line.specs.Letters.{letter, letters};
 ghost use Rattle.line.specs.Lines.{actions_of, line_bytes, most_trace, trace_of};

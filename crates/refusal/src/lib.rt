@@ -1,5 +1,7 @@
 //! Why a call is refused: every numbered refusal of the checker, and where a fault in handed bytes lies.
 
+#![tactic(auto)]
+
 ghost use Rattle.std.specs.Prelude.{◌≡◌};
 ghost use Rattle.refusal.specs.Numbers.{number, layer_number, byte_in_bundle};
 

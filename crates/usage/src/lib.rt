@@ -1,6 +1,8 @@
 //! How the calls are meant to be used: two functions that tests/compile-fail edits, where the compiler must refuse the
 //! slip, and the tests of the libraries.
 
+#![tactic(auto)]
+
 ghost use Rattle.std.specs.Prelude.{◌≡◌, [], ◌∷◌};
 ghost use Rattle.inspection.specs.Searches.{begun};
 ghost use Rattle.sheet.specs.Sheets.{sheet_meaning};

@@ -1,5 +1,7 @@
 //! Bytes and two-byte numbers, read where they stand; what stands past the end reads as 0.
 
+#![tactic(auto)]
+
 ghost use Rattle.std.specs.Prelude.{◌≡◌, ◌+◌, ◌*◌, slice_index};
 ghost use Rattle.words.specs.Words.{word};
 

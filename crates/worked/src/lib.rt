@@ -1,5 +1,7 @@
 //! Worked examples, proved of the definitions.
 
+#![tactic(auto)]
+
 ghost use Rattle.std.specs.Prelude.{◌≡◌};
 ghost use Rattle.worked.specs.Examples.{Examples};
 
