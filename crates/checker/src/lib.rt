@@ -44,8 +44,8 @@ pub fn check(bytes: &[u8]) -> Line
 fn inspect_in<M: Machine, W: Watcher>(machine: &M, watcher: &W, count: u16) -> Line
     requires some { 1 ≤ count }
     requires few { count ≤ most_trace }
-    ensures line { result ≡ inspected_line (graph machine.now) (automaton watcher.now) (replicate count blank) }
-    ensures law { Judges (graph machine.now) (automaton watcher.now) count result }
+    ensures line { result ≡ inspected_line (M.graph machine.now) (W.automaton watcher.now) (replicate count blank) }
+    ensures law { Judges (M.graph machine.now) (W.automaton watcher.now) count result }
 {
     let mut table = [BLANK; TABLE];
     inspect(machine, watcher, &mut table[0..usize::from(count)])
@@ -55,8 +55,8 @@ fn inspect_in<M: Machine, W: Watcher>(machine: &M, watcher: &W, count: u16) -> L
 fn inspect<M: Machine, W: Watcher>(machine: &M, watcher: &W, cells: &mut [Cell]) -> Line
     requires some { 1 ≤ length cells.old }
     requires few { length cells.old ≤ most_trace }
-    ensures line { result ≡ inspected_line (graph machine.now) (automaton watcher.now) cells.old }
-    ensures law { Judges (graph machine.now) (automaton watcher.now) (length cells.old) result }
+    ensures line { result ≡ inspected_line (M.graph machine.now) (W.automaton watcher.now) cells.old }
+    ensures law { Judges (M.graph machine.now) (W.automaton watcher.now) (length cells.old) result }
 {
     let mut inspection = Inspection::new();
     if let Err(refusal) = inspection.begin(machine, watcher, cells) {
@@ -74,7 +74,7 @@ fn inspect<M: Machine, W: Watcher>(machine: &M, watcher: &W, cells: &mut [Cell])
 
 /// The line of a decided inspection.
 fn conclude<M: Machine>(inspection: &Inspection, machine: &M, cells: &[Cell]) -> Line
-    ensures { result ≡ verdict_line (graph machine.now) (record { progress = inspection.now.progress; table = cells.now }) inspection.now.progress.verdict }
+    ensures { result ≡ verdict_line (M.graph machine.now) (record { progress = inspection.now.progress; table = cells.now }) inspection.now.progress.verdict }
 {
     let report = inspection.verdict();
     let opened = report.opened;

@@ -5,58 +5,58 @@ use Rattle.bundle.proofs.Chaining.{go, stop, out, checked_on, cells_on, ended_on
 use Rattle.bundle.proofs.Accepting.{accepts}
 use Rattle.bundle.proofs.read.Goals as goal
 
-pub returns-in-err-check-size : goal.returns-in-err-check-size
+pub returns-in_err-check_size : goal.returns-in_err-check_size
 unfolding bundle_of
-returns-in-err-check-size c = record {
+returns-in_err-check_size c = record {
   answer =
-      out _ _ _ _ c.from-residual.ensures.1
-      (stop _ c.in-err-check-size.ensures);
+      out _ _ _ _ c.from_residual.ensures.1
+      (stop _ c.in_err-check_size.ensures);
   accepts = accepts _;
 }
 
-pub returns-in-err-machine : goal.returns-in-err-machine
+pub returns-in_err-machine : goal.returns-in_err-machine
 unfolding bundle_of
-returns-in-err-machine c = record {
+returns-in_err-machine c = record {
   answer =
-      out _ _ _ _ c.from-residual-in-err-machine.ensures.1
-      (go _ c.in-ok-check-size.ensures
-      (stop _ (checked_on (kind_fault Sheet) machine_tag (c.new-fields.ensures.bytes ∙ whole _ c.in-ok-check-size.ensures) c.new-fields.ensures.at c.in-err-machine.ensures.value)));
+      out _ _ _ _ c.from_residual-in_err-machine.ensures.1
+      (go _ c.in_ok-check_size.ensures
+      (stop _ (checked_on (kind_fault Sheet) machine_tag (c.new-fields.ensures.bytes ∙ whole _ c.in_ok-check_size.ensures) c.new-fields.ensures.at c.in_err-machine.ensures.value)));
   accepts = accepts _;
 }
 
-pub returns-in-err-watcher : goal.returns-in-err-watcher
+pub returns-in_err-watcher : goal.returns-in_err-watcher
 unfolding bundle_of
-returns-in-err-watcher c = record {
+returns-in_err-watcher c = record {
   answer =
-      out _ _ _ _ c.from-residual-in-err-watcher.ensures.1
-      (go _ c.in-ok-check-size.ensures
-      (go _ (checked_on (kind_fault Sheet) machine_tag (c.new-fields.ensures.bytes ∙ whole _ c.in-ok-check-size.ensures) c.new-fields.ensures.at c.in-ok-machine.ensures.value)
-      (stop _ (checked_on (kind_fault WatchTable) watcher_tag (ap (λ x. x.now) c.take-checked.ensures.bytes ∙ c.new-fields.ensures.bytes ∙ whole _ c.in-ok-check-size.ensures) refl c.in-err-watcher.ensures.value))));
+      out _ _ _ _ c.from_residual-in_err-watcher.ensures.1
+      (go _ c.in_ok-check_size.ensures
+      (go _ (checked_on (kind_fault Sheet) machine_tag (c.new-fields.ensures.bytes ∙ whole _ c.in_ok-check_size.ensures) c.new-fields.ensures.at c.in_ok-machine.ensures.value)
+      (stop _ (checked_on (kind_fault WatchTable) watcher_tag (ap (λ x. x.now) c.take_checked.ensures.bytes ∙ c.new-fields.ensures.bytes ∙ whole _ c.in_ok-check_size.ensures) refl c.in_err-watcher.ensures.value))));
   accepts = accepts _;
 }
 
-pub returns-in-err-cells : goal.returns-in-err-cells
+pub returns-in_err-cells : goal.returns-in_err-cells
 unfolding bundle_of
-returns-in-err-cells c = record {
+returns-in_err-cells c = record {
   answer =
-      out _ _ _ _ c.from-residual-in-err-cells.ensures.1
-      (go _ c.in-ok-check-size.ensures
-      (go _ (checked_on (kind_fault Sheet) machine_tag (c.new-fields.ensures.bytes ∙ whole _ c.in-ok-check-size.ensures) c.new-fields.ensures.at c.in-ok-machine.ensures.value)
-      (go _ (checked_on (kind_fault WatchTable) watcher_tag (ap (λ x. x.now) c.take-checked.ensures.bytes ∙ c.new-fields.ensures.bytes ∙ whole _ c.in-ok-check-size.ensures) refl c.in-ok-watcher.ensures.value)
-      (stop _ (cells_on _ (ap (λ x. x.now) c.take-checked-2.ensures.bytes ∙ ap (λ x. x.now) c.take-checked.ensures.bytes ∙ c.new-fields.ensures.bytes ∙ whole _ c.in-ok-check-size.ensures) c.in-err-cells.ensures.value)))));
+      out _ _ _ _ c.from_residual-in_err-cells.ensures.1
+      (go _ c.in_ok-check_size.ensures
+      (go _ (checked_on (kind_fault Sheet) machine_tag (c.new-fields.ensures.bytes ∙ whole _ c.in_ok-check_size.ensures) c.new-fields.ensures.at c.in_ok-machine.ensures.value)
+      (go _ (checked_on (kind_fault WatchTable) watcher_tag (ap (λ x. x.now) c.take_checked.ensures.bytes ∙ c.new-fields.ensures.bytes ∙ whole _ c.in_ok-check_size.ensures) refl c.in_ok-watcher.ensures.value)
+      (stop _ (cells_on _ (ap (λ x. x.now) c.take_checked-2.ensures.bytes ∙ ap (λ x. x.now) c.take_checked.ensures.bytes ∙ c.new-fields.ensures.bytes ∙ whole _ c.in_ok-check_size.ensures) c.in_err-cells.ensures.value)))));
   accepts = accepts _;
 }
 
-pub returns-in-err-end : goal.returns-in-err-end
+pub returns-in_err-end : goal.returns-in_err-end
 unfolding bundle_of
-returns-in-err-end c = record {
+returns-in_err-end c = record {
   answer =
-      out _ _ _ _ c.from-residual-in-err-end.ensures.1
-      (go _ c.in-ok-check-size.ensures
-      (go _ (checked_on (kind_fault Sheet) machine_tag (c.new-fields.ensures.bytes ∙ whole _ c.in-ok-check-size.ensures) c.new-fields.ensures.at c.in-ok-machine.ensures.value)
-      (go _ (checked_on (kind_fault WatchTable) watcher_tag (ap (λ x. x.now) c.take-checked.ensures.bytes ∙ c.new-fields.ensures.bytes ∙ whole _ c.in-ok-check-size.ensures) refl c.in-ok-watcher.ensures.value)
-      (go _ (cells_on _ (ap (λ x. x.now) c.take-checked-2.ensures.bytes ∙ ap (λ x. x.now) c.take-checked.ensures.bytes ∙ c.new-fields.ensures.bytes ∙ whole _ c.in-ok-check-size.ensures) c.in-ok-cells.ensures.value)
-      (stop _ (ended_on _ (ap (λ x. x.now) c.take-cells.ensures.bytes ∙ ap (λ x. x.now) c.take-checked-2.ensures.bytes ∙ ap (λ x. x.now) c.take-checked.ensures.bytes ∙ c.new-fields.ensures.bytes ∙ whole _ c.in-ok-check-size.ensures) c.in-err-end.ensures))))));
+      out _ _ _ _ c.from_residual-in_err-end.ensures.1
+      (go _ c.in_ok-check_size.ensures
+      (go _ (checked_on (kind_fault Sheet) machine_tag (c.new-fields.ensures.bytes ∙ whole _ c.in_ok-check_size.ensures) c.new-fields.ensures.at c.in_ok-machine.ensures.value)
+      (go _ (checked_on (kind_fault WatchTable) watcher_tag (ap (λ x. x.now) c.take_checked.ensures.bytes ∙ c.new-fields.ensures.bytes ∙ whole _ c.in_ok-check_size.ensures) refl c.in_ok-watcher.ensures.value)
+      (go _ (cells_on _ (ap (λ x. x.now) c.take_checked-2.ensures.bytes ∙ ap (λ x. x.now) c.take_checked.ensures.bytes ∙ c.new-fields.ensures.bytes ∙ whole _ c.in_ok-check_size.ensures) c.in_ok-cells.ensures.value)
+      (stop _ (ended_on _ (ap (λ x. x.now) c.take_cells.ensures.bytes ∙ ap (λ x. x.now) c.take_checked-2.ensures.bytes ∙ ap (λ x. x.now) c.take_checked.ensures.bytes ∙ c.new-fields.ensures.bytes ∙ whole _ c.in_ok-check_size.ensures) c.in_err-end.ensures))))));
   accepts = accepts _;
 }
 
@@ -64,11 +64,11 @@ pub returns : goal.returns
 unfolding bundle_of
 returns c = record {
   answer =
-      go _ c.in-ok-check-size.ensures
-      (go _ (checked_on (kind_fault Sheet) machine_tag (c.new-fields.ensures.bytes ∙ whole _ c.in-ok-check-size.ensures) c.new-fields.ensures.at c.in-ok-machine.ensures.value)
-      (go _ (checked_on (kind_fault WatchTable) watcher_tag (ap (λ x. x.now) c.take-checked.ensures.bytes ∙ c.new-fields.ensures.bytes ∙ whole _ c.in-ok-check-size.ensures) refl c.in-ok-watcher.ensures.value)
-      (go _ (cells_on _ (ap (λ x. x.now) c.take-checked-2.ensures.bytes ∙ ap (λ x. x.now) c.take-checked.ensures.bytes ∙ c.new-fields.ensures.bytes ∙ whole _ c.in-ok-check-size.ensures) c.in-ok-cells.ensures.value)
-      (go _ (ended_on _ (ap (λ x. x.now) c.take-cells.ensures.bytes ∙ ap (λ x. x.now) c.take-checked-2.ensures.bytes ∙ ap (λ x. x.now) c.take-checked.ensures.bytes ∙ c.new-fields.ensures.bytes ∙ whole _ c.in-ok-check-size.ensures) c.in-ok-end.ensures)
+      go _ c.in_ok-check_size.ensures
+      (go _ (checked_on (kind_fault Sheet) machine_tag (c.new-fields.ensures.bytes ∙ whole _ c.in_ok-check_size.ensures) c.new-fields.ensures.at c.in_ok-machine.ensures.value)
+      (go _ (checked_on (kind_fault WatchTable) watcher_tag (ap (λ x. x.now) c.take_checked.ensures.bytes ∙ c.new-fields.ensures.bytes ∙ whole _ c.in_ok-check_size.ensures) refl c.in_ok-watcher.ensures.value)
+      (go _ (cells_on _ (ap (λ x. x.now) c.take_checked-2.ensures.bytes ∙ ap (λ x. x.now) c.take_checked.ensures.bytes ∙ c.new-fields.ensures.bytes ∙ whole _ c.in_ok-check_size.ensures) c.in_ok-cells.ensures.value)
+      (go _ (ended_on _ (ap (λ x. x.now) c.take_cells.ensures.bytes ∙ ap (λ x. x.now) c.take_checked-2.ensures.bytes ∙ ap (λ x. x.now) c.take_checked.ensures.bytes ∙ c.new-fields.ensures.bytes ∙ whole _ c.in_ok-check_size.ensures) c.in_ok-end.ensures)
       refl))));
   accepts = accepts _;
 }

@@ -7,8 +7,8 @@ use Rattle.checker.specs.Judged.{Judged}
 use Rattle.checker.proofs.Composing.{composed_law, composed_line}
 use Rattle.checker.proofs.check.Goals as goal
 
-pub inspect-in-requires : goal.inspect-in-requires
-inspect-in-requires c =
+pub inspect_in-requires : goal.inspect_in-requires
+inspect_in-requires c =
     let read = c.in-Ok.ensures in
     let d = (read.accepts (contents c.in-Ok.parts)).0 (sym read.answer) in
     record { some = d.some; few = d.few }
@@ -26,6 +26,6 @@ returns-in-Ok c =
     let m = c.new-machine.ensures.meaning in
     let w = c.new-watcher.ensures.meaning in
     record {
-      line = composed_line _ _ (contents c.in-Ok.parts) _ _ m w read c.inspect-in.ensures.line;
-      law = composed_law _ _ (contents c.in-Ok.parts) _ _ m w read c.inspect-in.ensures.law;
+      line = composed_line _ _ (contents c.in-Ok.parts) _ _ m w read c.inspect_in.ensures.line;
+      law = composed_law _ _ (contents c.in-Ok.parts) _ _ m w read c.inspect_in.ensures.law;
     }

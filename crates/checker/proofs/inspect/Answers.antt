@@ -30,6 +30,6 @@ returns g c =
     let w = g.W.Watcher.automaton c.args.watcher.now in
     let cs = c.args.cells.now in
     let i = c.loop-report.invariant in
-    let end = ended m w cs c.requires.some c.requires.few _ _ _ c.new-inspection.ensures c.begin.ensures i.0 _ i.1 c.loop-report.report i.2 c.in-default-verdict.not-Open in
+    let end = ended m w cs c.requires.some c.requires.few _ _ _ c.new-inspection.ensures c.begin.ensures i.0 _ i.1 c.loop-report.report i.2 c.in_default-verdict.not-Open in
     let line = c.conclude.ensures ∙ ap (λ (s : Snapshot). verdict_line m s s.progress.verdict) end in
     record { line = line; law = subst (Judges m w (length cs)) (sym line) (judges m w cs c.requires.some c.requires.few) }

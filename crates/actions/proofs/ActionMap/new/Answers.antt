@@ -3,8 +3,8 @@ use Rattle.actions.specs.Maps.{IntoActions}
 use Rattle.actions.proofs.Entries.{passed}
 use Rattle.actions.proofs.ActionMap.new.Goals as goal
 
-pub copy-from-slice-requires : goal.copy-from-slice-requires
-copy-from-slice-requires c = sym (passed c.args.bytes.now c.in-default.ensures).long
+pub copy_from_slice-requires : goal.copy_from_slice-requires
+copy_from_slice-requires c = sym (passed c.args.bytes.now c.in_default.ensures).long
 
-pub invariant-of-result : goal.invariant-of-result
-invariant-of-result c = (subst (λ (t : List ℕ). IntoActions t) (sym c.copy-from-slice.ensures.after) (passed c.args.bytes.now c.in-default.ensures).actions, tt)
+pub invariant_of-result : goal.invariant_of-result
+invariant_of-result c = (subst (λ (t : List ℕ). IntoActions t) (sym c.copy_from_slice.ensures.after) (passed c.args.bytes.now c.in_default.ensures).actions, tt)

@@ -6,10 +6,10 @@ pub returns-then-self-base : goal.returns-then-self-base
 unfolding entry_count
 returns-then-self-base c = omega arith
 
-pub returns-then-count-lt-MAX-ENTRIES : goal.returns-then-count-lt-MAX-ENTRIES
+pub returns-then-count-lt-MAX_ENTRIES : goal.returns-then-count-lt-MAX_ENTRIES
 unfolding entry_count
-returns-then-count-lt-MAX-ENTRIES c = omega arith
+returns-then-count-lt-MAX_ENTRIES c = omega arith
 
-pub returns-else-count-lt-MAX-ENTRIES : goal.returns-else-count-lt-MAX-ENTRIES
+pub returns-else-count-lt-MAX_ENTRIES : goal.returns-else-count-lt-MAX_ENTRIES
 unfolding entry_count
-returns-else-count-lt-MAX-ENTRIES c = omega arith
+returns-else-count-lt-MAX_ENTRIES c = omega arith

@@ -19,8 +19,8 @@ loop-i-init g c =
       (λ s h. no_counts (key_at c.args.entries.key b base) (replicate g.row.N 0) (zeros g.row.N) s),
     )
 
-pub entry-fault-requires : goal.entry-fault-requires
-entry-fault-requires g c = omega (arith, c.from.ensures, c.from-in-loop-i.ensures, count_few c.args.entries.bytes.now c.args.entries.base)
+pub entry_fault-requires : goal.entry_fault-requires
+entry_fault-requires g c = omega (arith, c.from.ensures, c.from-in-loop-i.ensures, count_few c.args.entries.bytes.now c.args.entries.base)
 
 pub returns-in-Some : goal.returns-in-Some
 returns-in-Some g c =
@@ -35,10 +35,10 @@ loop-i-preserved g c =
     let seen-is : c.if-key.seen ≡ get_or c.loop-i.counts c.of-key.result 0 = elim c.if-key.branch [ then-key w ↦ w.seen-is | else-key w ↦ w.seen-is ∙ sym (get_or_past c.loop-i.counts c.of-key.result 0 (omega arith)) ] in
     let low : c.of-key.result < g.row.N = key_counted c.args.entries.key c.args.entries.bytes.now c.args.entries.base c.args.size c.loop-i.i g.row.N c.loop-i.counts c.requires c.loop-i.invariant.2
     (omega arith) c.get-entry.result c.of-key.result c.if-key.seen _ c.get-entry.ensures c.of-key.ensures seen-is (omega (arith, c.from.ensures, c.from-in-loop-i.ensures))
-    c.in-default.ensures in (
+    c.in_default.ensures in (
       fault_later c.args.entries.key c.args.entries.bytes.now c.args.entries.base c.args.size c.loop-i.i g.row.N c.loop-i.counts c.requires c.loop-i.invariant.2
           (omega arith) c.get-entry.result c.of-key.result c.if-key.seen _ c.get-entry.ensures c.of-key.ensures seen-is (omega (arith, c.from.ensures, c.from-in-loop-i.ensures))
-          c.in-default.ensures
+          c.in_default.ensures
           ∙ c.loop-i.invariant.0,
       length-set _ _ _ ∙ c.loop-i.invariant.1,
       counts_more (key_at c.args.entries.key c.args.entries.bytes.now c.args.entries.base) c.loop-i.i c.of-key.result g.row.N c.loop-i.counts (key_is c.args.entries.key c.args.entries.bytes.now c.args.entries.base c.loop-i.i c.of-key.result c.get-entry.result c.get-entry.ensures c.of-key.ensures) low c.loop-i.invariant.1 c.loop-i.invariant.2,

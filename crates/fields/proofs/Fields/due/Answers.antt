@@ -16,9 +16,9 @@ returns-then-bytes-at-lt-HEADER c =
 pub returns-then-bytes-place : goal.returns-then-bytes-place
 returns-then-bytes-place c =
     let cut = due_cut _ _ _ c.if-at-bytes.false c.if-bytes-at.false (inr (omega arith)) in
-    record { value = ap Err c.bundle-fault-then-bytes-place.ensures ∙ sym cut; at = refl; bytes = refl }
+    record { value = ap Err c.bundle_fault-then-bytes-place.ensures ∙ sym cut; at = refl; bytes = refl }
 
 pub returns : goal.returns
 returns c =
-    let whole = due_whole _ _ _ _ _ c.if-at-bytes.false c.if-bytes-at.false c.from-len.ensures c.word-at.ensures c.if-bytes-at-lt-HEADER.false c.if-bytes-place.false in
+    let whole = due_whole _ _ _ _ _ c.if-at-bytes.false c.if-bytes-at.false c.from-len.ensures c.word_at.ensures c.if-bytes-at-lt-HEADER.false c.if-bytes-place.false in
     record { value = sym whole; at = part_long _ _ _ c.if-bytes-at-lt-HEADER.false c.if-bytes-place.false; bytes = refl }

@@ -12,9 +12,9 @@ pub loop-action-preserved : goal.loop-action-preserved
 loop-action-preserved g c = λ plain.
     let took = g.W.Write.write_str_gives in
     let before = c.loop-action.invariant plain in
-    let here = c.in-ok-write-char.ensures.writes before.plain refl in
+    let here = c.in_ok-write_char.ensures.writes before.plain refl in
     has_written_of_eq took _ _ _ _
-    (letters_more _ _ _ _ c.actions-action-items.ensures.actions c.letter-of.ensures c.loop-action-test.true)
+    (letters_more _ _ _ _ c.actions-action-items.ensures.actions c.letter_of.ensures c.loop-action-test.true)
     (has_written_append took _ _ _ _ _ before here)
 
 pub returns-clause-writes : goal.returns-clause-writes
