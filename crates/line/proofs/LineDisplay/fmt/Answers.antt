@@ -7,11 +7,11 @@ pub returns-then-is_empty-clause-writes : goal.returns-then-is_empty-clause-writ
 returns-then-is_empty-clause-writes g c = λ plain ok.
     has_written_of_eq g.W.Write.write_str_gives _ _ _ _
     (broken_bare _ _ _ _ _ c.in-Broken.is (after_none _ _ c.actions.ensures.actions c.if-is_empty.ensures))
-    (c.in_ok-write.ensures.shows plain refl)
+    (c.in_ok-write-in-Broken.ensures.writes plain refl)
 
 pub returns-else-is_empty-clause-writes : goal.returns-else-is_empty-clause-writes
 returns-else-is_empty-clause-writes g c = λ plain ok.
-    let front = c.in_ok-write.ensures.shows plain refl in
+    let front = c.in_ok-write-in-Broken.ensures.writes plain refl in
     has_written_of_eq g.W.Write.write_str_gives _ _ _ _
     (broken_whole _ _ _ _ _ _ c.in-Broken.is (after_some _ _ c.actions.ensures.actions c.if-is_empty.ensures))
     (has_written_append g.W.Write.write_str_gives _ _ _ _ _ front (c.write-else-is_empty.ensures.writes front.plain ok))
