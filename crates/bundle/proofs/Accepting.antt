@@ -1,17 +1,16 @@
 -- What is accepted of a bundle's bytes is exactly what they describe.
-use Rattle.std.proofs.Common.{◌≡◌, ℕ, ◌+◌, ◌*◌, ◌<◌, ◌≤◌, Bool, true, false, cond, ◌&&◌, ◌||◌, eqb, ltb, leb, ◌↔◌, List, [], ◌∷◌, ◌++◌, length, get_or, drop, Some, None, Ok, Err, Option, Result, sym, refl, ap, ◌∙◌, arith, length-append, length-drop}
-use lib.Seq.{drop-length}
-use Rattle.std.proofs.lemmas.List.{append-nil, drop_all}
-use Rattle.std.proofs.lemmas.Bool.{and_from, and_parts, cond-true, cond-false, eq-eqb, eqb-true, eqb-false, le-leb, leb-true, ltb-false, le-ltb, or_parts}
+use Rattle.std.proofs.Common.{◌≡◌, ℕ, ◌+◌, ◌*◌, ◌≤◌, Bool, true, false, cond, ◌&&◌, ◌||◌, eqb, ltb, leb, List, [], ◌∷◌, ◌++◌, length, get_or, drop, Some, None, Ok, Err, Option, Result, refl, ap, ◌∙◌, arith, length-drop}
+use Rattle.std.proofs.lemmas.List.{drop_all}
+use Rattle.std.proofs.lemmas.Bool.{and_from, and_parts, cond-true, cond-false, eqb-true, le-leb, leb-true, le-ltb}
 use Rattle.std.proofs.lemmas.Bool.Decides.{nat_tests}
 use Rattle.refusal.specs.declared.Fault.{Fault}
 use Rattle.refusal.specs.declared.PlacedFault.{PlacedFault}
 use Rattle.words.specs.Words.{word}
-use Rattle.fields.specs.Fields.{Piece, ended, most_bundle, past, sized}
+use Rattle.fields.specs.Fields.{ended, most_bundle, past, sized}
 use Rattle.sheet.specs.Sheets.{sheet_fault}
 use Rattle.watch_table.specs.Tables.{table_fault}
-use Rattle.bundle.specs.Accepted.{Accepts, Describes, FieldBytes}
-use Rattle.bundle.specs.Bundles.{Contents, Got, allowed, bundle_of, cells_at, cells_tag, checked_at, field, got, lifted, long, machine_tag, most_cells, then, watcher_tag}
+use Rattle.bundle.specs.Accepted.{Accepts, Describes}
+use Rattle.bundle.specs.Bundles.{Contents, Got, allowed, bundle_of, cells_at, cells_tag, checked_at, got, lifted, long, machine_tag, most_cells, then, watcher_tag}
 use Rattle.bundle.proofs.Framing.{Framed, ReadHere, framed, read_here}
 
 -- where a chain was accepted, each stage was

@@ -1,7 +1,6 @@
 -- A new table.
 use Rattle.std.proofs.Common.{◌≡◌, ℕ, ◌-◌, ◌≤◌, take, drop, replicate, ap, ◌∙◌, arith}
 use Rattle.std.proofs.lemmas.List.{take-replicate}
-use Rattle.inspection.specs.declared.cells.Cell.{Cell}
 use Rattle.inspection.specs.Cells.{blank}
 use Rattle.line.specs.Lines.{most_trace}
 

@@ -1,13 +1,12 @@
 -- What the line of a finished inspection says of its machine and its watcher.
-use Rattle.std.proofs.Common.{◌≡◌, ℕ, ◌≤◌, true, false, List, ◌++◌, length, drop, replicate, None, sym, refl, ap, ◌∙◌, subst, arith}
+use Rattle.std.proofs.Common.{◌≡◌, ℕ, ◌≤◌, true, List, ◌++◌, length, drop, replicate, None, sym, refl, ap, ◌∙◌, subst, arith}
 use Rattle.std.proofs.lemmas.Bool.{eq-eqb, le-leb, true≢false}
-use Rattle.refusal.specs.declared.PlacedFault.{PlacedFault}
 use Rattle.model.specs.Automata.{Automaton}
 use Rattle.model.specs.Graphs.{Graph}
 use Rattle.model.specs.Runs.{Shortest}
 use Rattle.inspection.specs.declared.cells.Cell.{Cell}
 use Rattle.inspection.specs.declared.search.Verdict.{Verdict}
-use Rattle.inspection.specs.declared.search.Verdict.TheVariants.{Idle, Open, Holds, Broken, Full}
+use Rattle.inspection.specs.declared.search.Verdict.TheVariants.{Holds, Broken, Full}
 use Rattle.inspection.specs.Calls.{trace_refusal}
 use Rattle.inspection.specs.Law.{Law}
 use Rattle.inspection.specs.Limits.{most_cells}
@@ -15,8 +14,7 @@ use Rattle.inspection.specs.Searches.{Snapshot, actions, is_decided, reported}
 use Rattle.inspection.specs.Walks.{traced}
 use Rattle.inspection.proofs.Completion.{run_decided, run_invariant, run_law, run_within}
 use Rattle.inspection.proofs.Laws.{decided_verdict, written_shortest}
-use Rattle.line.specs.declared.Line.{Line}
-use Rattle.line.specs.declared.Line.TheVariants.{Broken as BrokenLine, Fault as FaultLine}
+use Rattle.line.specs.declared.Line.TheVariants.{Broken as BrokenLine}
 use Rattle.line.specs.declared.Trace.{Trace}
 use Rattle.line.specs.Lines.{actions_of, most_trace, trace_of}
 use Rattle.checker.specs.Checked.{finished, inspected_line, traced_line, verdict_line}

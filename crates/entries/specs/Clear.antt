@@ -2,7 +2,7 @@
 use Rattle.std.specs.Prelude.{◌≡◌, ℕ, ◌+◌, ◌<◌, ◌≤◌, Bool, true, false, cond, not, List, [], ◌∷◌, ◌++◌, length, is_some, Some, None, Option, ◌==◌, nat_eq, refl}
 use Rattle.std.proofs.Common.{subst, append_assoc, inl, inr, arith, length-append}
 use Rattle.std.specs.Option.{option_or}
-use Rattle.std.specs.List.{filter, AllByRecursion as All}
+use Rattle.std.specs.List.{AllByRecursion as All}
 use Rattle.std.proofs.lemmas.List.Elements.{filter-append}
 use Rattle.std.proofs.lemmas.List.{append-nil}
 use Rattle.std.proofs.lemmas.Bool.{leb-false, eqb-true, eqb-false, ltb-false, or_parts, cases_Bool}

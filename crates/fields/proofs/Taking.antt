@@ -1,10 +1,9 @@
 -- When a field is due, cut off, or another.
-use Rattle.std.proofs.Common.{◌≡◌, ℕ, ◌+◌, ◌-◌, ◌*◌, ◌<◌, ◌≤◌, Bool, true, false, cond, ◌&&◌, eqb, ltb, leb, ◌⊎◌, List, length, get_or, take, drop, Some, None, Ok, Err, Option, Result, sym, refl, ap, ◌∙◌, inl, inr, arith, length-drop, length-take}
+use Rattle.std.proofs.Common.{◌≡◌, ℕ, ◌+◌, ◌-◌, ◌<◌, ◌≤◌, ◌⊎◌, List, length, get_or, take, drop, Some, None, Ok, Err, ap, ◌∙◌, inl, inr, arith, length-drop, length-take}
 use Rattle.std.proofs.lemmas.Bool.Decides.{nat_tests}
-use Rattle.refusal.specs.declared.PlacedFault.{PlacedFault}
 use Rattle.refusal.specs.declared.Refusal.TheVariants.{FieldPastEnd}
 use Rattle.words.specs.Words.{word}
-use Rattle.fields.specs.Fields.{Piece, bundle_fault, field_at, due_at}
+use Rattle.fields.specs.Fields.{bundle_fault, field_at, due_at}
 
 pub due_other : (bytes : List ℕ) (at tag : ℕ) → (length bytes ≤ at) ⊎ (get_or bytes at 0 ≡ tag → ⊥) → due_at bytes at tag ≡ Ok None
 unfolding due_at

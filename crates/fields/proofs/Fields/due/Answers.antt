@@ -1,4 +1,4 @@
-use Rattle.std.proofs.Common.{Ok, Err, sym, refl, ap, ◌∙◌, inl, inr, arith}
+use Rattle.std.proofs.Common.{Err, sym, refl, ap, ◌∙◌, inl, inr, arith}
 use Rattle.fields.proofs.Taking.{due_other, due_cut, due_whole, part_long}
 use Rattle.fields.proofs.Fields.due.Goals as goal
 use Rattle.fields.proofs.Fields.due.Goals.{then-at-bytes-via-then-at-bytes, then-at-bytes-via-else-at-bytes+then-bytes-at}

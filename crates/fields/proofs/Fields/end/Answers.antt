@@ -1,4 +1,4 @@
-use Rattle.std.proofs.Common.{Ok, Err, sym, ap, ◌∙◌, arith}
+use Rattle.std.proofs.Common.{Err, sym, ap, ◌∙◌}
 use Rattle.fields.proofs.Ending.{ended_not, ended_well}
 use Rattle.fields.proofs.Fields.end.Goals as goal
 
