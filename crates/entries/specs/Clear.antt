@@ -2,7 +2,7 @@
 use Rattle.std.specs.Prelude.{◌≡◌, ℕ, ◌+◌, ◌<◌, ◌≤◌, Bool, true, false, cond, not, List, [], ◌∷◌, ◌++◌, length, is_some, Some, None, Option, ◌==◌, nat_eq, refl}
 use Rattle.std.proofs.Common.{subst, append_assoc, inl, inr, arith, length-append}
 use Rattle.std.specs.Option.{option_or}
-use Rattle.std.specs.List.{AllByRecursion as All}
+use Rattle.std.specs.List.{AllByRecursion}
 use Rattle.std.proofs.lemmas.List.Elements.{filter-append}
 use Rattle.std.proofs.lemmas.List.{append-nil}
 use Rattle.std.proofs.lemmas.Bool.{leb-false, eqb-true, eqb-false, ltb-false, or_parts, cases_Bool}
@@ -59,7 +59,7 @@ entry_clear size seen e at none =
 
 module _ (key : Key) (size : ℕ) where
   -- entries without a fault are in range
-  pub all_in_range : (before es : List Entry) (at : ℕ) → entries_fault key size before es at ≡ None → All (InRange size) es
+  pub all_in_range : (before es : List Entry) (at : ℕ) → entries_fault key size before es at ≡ None → AllByRecursion (InRange size) es
   all_in_range before [] at none = tt
   all_in_range before (e ∷ es) at none =
       let parts = or_none (entry_fault size (length (sharing key (key_of key e) before)) e at) _ none in
