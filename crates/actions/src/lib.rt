@@ -2,16 +2,16 @@
 
 #![tactic(auto)]
 
-ghost use Rattle.std.specs.Prelude.{◌≡◌, ◌==◌};
+ghost use Rattle.std.specs.Prelude.{◌≡◌, ◌==◌, IfOk};
+ghost use Rattle.std.specs.Result.{result_err};
 ghost use Rattle.actions.specs.Maps.{IntoActions, identity, image, map_fault, map_meaning};
 ghost use Rattle.actions.specs.Sets.{in_set};
 
-use entries::content_fault;
 use model::ACTIONS;
 use refusal::{Fault, Refusal};
 
 /// A set of actions.
-#[derive(Clone, Copy)]
+#[derive(Clone, Copy, Debug, PartialEq, Eq)]
 pub struct ActionSet {
     /// Bit i is 1 where action i is in the set.
     bits: u16,
@@ -44,7 +44,7 @@ impl ActionSet {
 pub const MAP_LEN: usize = ACTIONS as usize;
 
 /// A map from actions to actions.
-#[derive(Clone, Copy)]
+#[derive(Clone, Copy, Debug, PartialEq, Eq)]
 pub struct ActionMap {
     /// Entry i stands in the place of action i,
     table: [u8; MAP_LEN],
@@ -67,37 +67,37 @@ impl ActionMap {
     pub fn new(bytes: &[u8]) -> ActionMap
         ensures { result.table ≡ map_meaning bytes.now }
     {
-        if let Some(_) = first_fault(bytes) {
-            return ActionMap::identity();
-        }
-        let mut table = IDENTITY;
-        table.copy_from_slice(bytes);
-        ActionMap { table }
+        ActionMap::try_from(bytes).unwrap_or_else(|_| ActionMap::identity())
     }
 
     /// What stands in the place of an action; of a number that is no action, 0.
     pub fn image(&self, action: u8) -> u8
         ensures { result ≡ image self.now.table action }
     {
-        if action < ACTIONS {
-            self.table[usize::from(action)]
-        } else {
-            0
+        self.table.get(usize::from(action)).copied().unwrap_or(0)
+    }
+}
+
+/// The map of these bytes, one for each action, or the first fault of bytes that are no map.
+impl TryFrom<&[u8]> for ActionMap {
+    type Error = Fault;
+
+    ghost try_from_gives = { λ bytes result. (result_err result ≡ map_fault bytes.now) × IfOk result (λ map. map.table ≡ bytes.now) };
+
+    fn try_from(bytes: &[u8]) -> Result<ActionMap, Fault> {
+        let Ok(table) = <[u8; MAP_LEN]>::try_from(bytes) else {
+            return Err(Fault::in_content(Refusal::ContentLength, 0));
+        };
+        match table.iter().position(|image| *image >= ACTIONS) {
+            Some(at) => Err(Fault::in_content(Refusal::OutOfRange, at as u32)),
+            None => Ok(ActionMap { table }),
         }
     }
 }
 
-/// The first fault of the bytes, if they are no map.
-pub fn first_fault(bytes: &[u8]) -> Option<Fault>
-    ensures { result ≡ map_fault bytes.now }
+/// Checks that the bytes are a map.
+pub fn check(bytes: &[u8]) -> Result<(), Fault>
+    ensures { result_err result ≡ map_fault bytes.now }
 {
-    if bytes.len() != MAP_LEN {
-        return content_fault(Refusal::ContentLength, 0);
-    }
-    for (at, entry) in bytes.iter().enumerate() {
-        if *entry >= ACTIONS {
-            return content_fault(Refusal::OutOfRange, at as u32);
-        }
-    }
-    None
+    ActionMap::try_from(bytes).map(|_| ())
 }

@@ -22,7 +22,7 @@ pub record Passed {A B : Type 0} (x : Result A PlacedFault) (k : A → Result B 
 passed : {A B : Type 0} (x : Result A PlacedFault) (k : A → Result B PlacedFault) (b : B) → then x k ≡ Ok b → Passed x k b
 unfolding then
 passed (Ok a) k b e = record { value = a; was = refl; rest = e }
-passed (Err f) k b e = absurd (let z : ◌≡◌ {A = ℕ} 0 1 = cc in omega arith)
+passed (Err f) k b e = absurd cc
 
 -- and a chain goes on from an accepted stage
 onward : {A B : Type 0} {x : Result A PlacedFault} {a : A} (k : A → Result B PlacedFault) {y : Result B PlacedFault} → x ≡ Ok a → k a ≡ y → then x k ≡ y
@@ -32,7 +32,7 @@ onward k e f = ap (λ z. then z k) e ∙ f
 -- a content that was passed has no fault
 no_fault : (place : ℕ) (f : Option Fault) (u : Unit {0}) → lifted place f ≡ Ok u → f ≡ None
 no_fault place None u e = refl
-no_fault place (Some f) u e = absurd (let z : ◌≡◌ {A = ℕ} 0 1 = cc in omega arith)
+no_fault place (Some f) u e = absurd cc
 
 -- what a stage with a checked content read
 pub record Checked (fault : List ℕ → Option Fault) (bytes : List ℕ) (at tag : ℕ) (m : Got (List ℕ)) : Type 0 where
@@ -71,7 +71,7 @@ pub record Counted (bytes : List ℕ) (at : ℕ) (t : Got ℕ) : Type 0 where
 
 cond_ok : {A : Type 0} (t : Bool) (a b : A) (e : PlacedFault) → cond t (Ok a) (Err e) ≡ Ok b → (t ≡ true) × (a ≡ b)
 cond_ok true a b e h = (refl, cc)
-cond_ok false a b e h = absurd (let z : ◌≡◌ {A = ℕ} 0 1 = cc in omega arith)
+cond_ok false a b e h = absurd cc
 
 counted : (bytes : List ℕ) (at : ℕ) (t : Got ℕ) → cells_at bytes at ≡ Ok t → Counted bytes at t
 unfolding cells_at long allowed
@@ -112,11 +112,7 @@ unfolding ended
 ended_rest bytes at u e = let far : length bytes ≤ at = grind (arith, nat_tests) in drop_all at bytes far
 
 no_rest : (bytes : List ℕ) (at : ℕ) → drop at bytes ≡ [] → length bytes ≤ at
-no_rest [] at e = omega arith
-no_rest (x ∷ xs) at e = beyond (x ∷ xs) at (ap length e)
-  where
-    beyond : (l : List ℕ) (n : ℕ) → length (drop n l) ≡ 0 → length l ≤ n
-    beyond l n h = omega (arith, simp length-drop at h)
+no_rest bytes at e = omega (arith, length-drop at bytes, ap length e)
 
 rest_ended : (bytes : List ℕ) (at : ℕ) → drop at bytes ≡ [] → ended bytes at ≡ Ok tt
 unfolding ended

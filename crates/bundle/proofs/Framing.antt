@@ -18,13 +18,13 @@ head bytes at x xs e = by (cases_lt at (length bytes))
   where
     by : (at < length bytes) ⊎ (length bytes ≤ at) → Head bytes at x xs
     by (inl h) = let m = drop_more bytes at 0 h in record { inside = h; byte = cc; rest = cc }
-    by (inr h) = let m = drop_all at bytes h in absurd (let z : ◌≡◌ {A = ℕ} 0 1 = cc in omega arith)
+    by (inr h) = let m = drop_all at bytes h in absurd cc
 
 -- a field that is there and whole is what it was tested for
 found_whole : (t u : Bool) (q p : Piece) (e : PlacedFault) (at : ℕ) → needed at (cond t (cond u (Ok (Some q)) (Err e)) (Ok None)) ≡ Ok p → (t ≡ true) × (u ≡ true) × (q ≡ p)
 found_whole true true q p e at h = (refl, refl, cc)
-found_whole true false q p e at h = absurd (let z : ◌≡◌ {A = ℕ} 0 1 = cc in omega arith)
-found_whole false u q p e at h = absurd (let z : ◌≡◌ {A = ℕ} 0 1 = cc in omega arith)
+found_whole true false q p e at h = absurd cc
+found_whole false u q p e at h = absurd cc
 
 -- the bytes from a field on: its tag, its length, its content, and what follows it
 pub record Framed (bytes : List ℕ) (at tag : ℕ) (content : List ℕ) (next : ℕ) : Type 0 where

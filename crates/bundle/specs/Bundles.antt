@@ -1,7 +1,7 @@
 -- What a bundle means: its contents, or its first fault.
 use Rattle.std.specs.Prelude.{ℕ, cond, ◌&&◌, List, length, Some, None, Ok, Err, Option, Result, ◌==◌, nat_le}
 use Rattle.refusal.specs.declared.Fault.{Fault}
-use Rattle.refusal.specs.declared.Layer.TheVariants.{Content}
+use Rattle.refusal.specs.Faults.{fault_at, fault_in_content}
 use Rattle.refusal.specs.declared.PlacedFault.{PlacedFault}
 use Rattle.refusal.specs.declared.Refusal.{Refusal}
 use Rattle.refusal.specs.declared.Refusal.TheVariants.{ContentLength, OutOfRange}
@@ -9,8 +9,6 @@ use Rattle.words.specs.Words.{word}
 use Rattle.fields.specs.Fields.{Piece, due_at, ended, needed, past, sized}
 use Rattle.sheet.specs.Sheets.{sheet_fault}
 use Rattle.watch_table.specs.Tables.{table_fault}
-use Rattle.bundle.specs.declared.Kind.{Kind}
-use Rattle.bundle.specs.declared.Kind.TheVariants.{Sheet, WatchTable}
 use Rattle.bundle.specs.declared.Parts.{Parts}
 
 abbrev pub most_cells : ℕ
@@ -42,11 +40,11 @@ then (Err e) next = Err e
 -- a fault in a content goes up whole, with the content's place
 abbrev pub lifted : ℕ → Option Fault → Result (Unit {0}) PlacedFault
 lifted place None = Ok tt
-lifted place (Some f) = Err (record { fault = f; place = place })
+lifted place (Some f) = Err (fault_at f place)
 
 -- a fault at the first byte of a content
 abbrev pub content_fault : Refusal → ℕ → PlacedFault
-content_fault refusal place = record { fault = record { refusal = refusal; layer = Content; byte = 0 }; place = place }
+content_fault refusal place = fault_at (fault_in_content refusal 0) place
 
 -- a content must have this length
 unfoldable pub long : ℕ → Piece → Result (Unit {0}) PlacedFault
@@ -56,14 +54,16 @@ long n p = cond (length p.content == n) (Ok tt) (Err (content_fault ContentLengt
 unfoldable pub allowed : Piece → ℕ → Result ℕ PlacedFault
 allowed p n = cond (nat_le 1 n && nat_le n most_cells) (Ok n) (Err (content_fault OutOfRange p.place))
 
+-- the number of cells in a content of two bytes, from 1 to 1,024
+abbrev pub cells_in : List ℕ → Result ℕ Fault
+cells_in content =
+    cond (length content == 2)
+    (cond (nat_le 1 (word content 0) && nat_le (word content 0) most_cells) (Ok (word content 0)) (Err (fault_in_content OutOfRange 0)))
+    (Err (fault_in_content ContentLength 0))
+
 -- the field that is due at a byte, which may not be missing
 abbrev pub field : List ℕ → ℕ → ℕ → Result Piece PlacedFault
 field bytes at tag = needed at (due_at bytes at tag)
-
--- the first fault of a content, by what it is to describe
-abbrev pub kind_fault : Kind → List ℕ → Option Fault
-kind_fault Sheet content = sheet_fault content
-kind_fault WatchTable content = table_fault content
 
 -- a field whose content has no fault
 unfoldable pub checked_at : (List ℕ → Option Fault) → List ℕ → ℕ → ℕ → Result (Got (List ℕ)) PlacedFault
@@ -88,8 +88,8 @@ pub record Contents : Type 0 where
 unfoldable pub bundle_of : List ℕ → Result Contents PlacedFault
 bundle_of bytes =
     then (sized bytes) (λ _.
-    then (checked_at (kind_fault Sheet) bytes 0 machine_tag) (λ m.
-    then (checked_at (kind_fault WatchTable) bytes m.next watcher_tag) (λ w.
+    then (checked_at sheet_fault bytes 0 machine_tag) (λ m.
+    then (checked_at table_fault bytes m.next watcher_tag) (λ w.
     then (cells_at bytes w.next) (λ t.
     then (ended bytes t.next) (λ _.
     Ok (record { machine = m.value; watcher = w.value; cells = t.value }))))))

@@ -5,19 +5,18 @@
 #![tactic(auto)]
 
 ghost use Rattle.std.specs.Prelude.{◌≡◌};
-ghost use Rattle.fields.specs.Fields.{piece, told};
+ghost use Rattle.fields.specs.Fields.{told};
 ghost use Rattle.bundle.specs.Accepted.{Accepts};
-ghost use Rattle.bundle.specs.Bundles.{allowed, bundle_of, cells_at, checked_at, content_fault, contents, got, kind_fault, lifted, long};
+ghost use Rattle.bundle.specs.Bundles.{bundle_of, cells_in, contents};
 
-use fields::{Field, Fields, check_size};
-use refusal::{Fault, Layer, PlacedFault, Refusal};
-use words::word_at;
+use fields::Fields;
+use refusal::{Fault, PlacedFault, Refusal};
 
 /// The most cells that a bundle may ask for.
 pub const MAX_CELLS: u16 = 1_024;
 
 /// What a bundle describes: the bytes of a sheet and of a watch table, both without a fault, and a number of cells.
-#[derive(Drop)]
+#[derive(Clone, Copy, Debug)]
 pub struct Parts<'a> {
     pub machine: &'a [u8],
     pub watcher: &'a [u8],
@@ -27,102 +26,34 @@ pub struct Parts<'a> {
 /// The parts of a bundle, or its first fault: of its size, then field by field of the tag, of the length and of the
 /// content, and last of what stands after the fields. Accepted is exactly what describes its parts: three fields in a
 /// row, of allowed contents, and nothing else.
-pub fn read<'a>(bytes: &'a [u8]) -> Result<Parts<'a>, PlacedFault>
+pub fn read(bytes: &[u8]) -> Result<Parts<'_>, PlacedFault>
     ensures answer { told contents result ≡ bundle_of bytes.now }
     ensures accepts { Accepts bytes.now (bundle_of bytes.now) }
 {
-    check_size(bytes)?;
-    let mut fields = Fields::new(bytes);
-    let machine = take_checked(&mut fields, b'M', Kind::Sheet)?;
-    let watcher = take_checked(&mut fields, b'W', Kind::WatchTable)?;
-    let cells = take_cells(&mut fields)?;
+    let mut fields = Fields::try_from(bytes)?;
+    let machine = fields.take(b'M')?;
+    machine.read(sheet::check)?;
+    let watcher = fields.take(b'W')?;
+    watcher.read(watch_table::check)?;
+    let cells = fields.take(b'T')?.read(cell_count)?;
     fields.end()?;
     Ok(Parts {
-        machine,
-        watcher,
+        machine: machine.content,
+        watcher: watcher.content,
         cells,
     })
 }
 
-/// What the content of a field describes.
-#[derive(Clone, Copy)]
-enum Kind {
-    Sheet,
-    WatchTable,
-}
-
-impl Kind {
-    /// The first fault of a content that is to be of this kind, if it has one.
-    fn first_fault(self, content: &[u8]) -> Option<Fault>
-        ensures { result ≡ kind_fault self content.now }
-    {
-        match self {
-            Kind::Sheet => sheet::first_fault(content),
-            Kind::WatchTable => watch_table::first_fault(content),
-        }
-    }
-}
-
-/// The content of the field with this tag, which is of this kind.
-fn take_checked<'a>(fields: &mut Fields<'a>, tag: u8, kind: Kind) -> Result<&'a [u8], PlacedFault>
-    ensures value { told (λ s. got s.now fields.new.at) result ≡ checked_at (kind_fault kind) fields.old.bytes.now fields.old.at tag }
-    ensures bytes { fields.new.bytes ≡ fields.old.bytes }
+/// The number of cells that the two bytes of a content ask for.
+fn cell_count(content: &[u8]) -> Result<u16, Fault>
+    ensures { result ≡ cells_in content.now }
 {
-    let field = fields.take(tag)?;
-    pass_up(kind.first_fault(field.content), field.place)?;
-    Ok(field.content)
-}
-
-/// The number in the field T.
-fn take_cells<'a>(fields: &mut Fields<'a>) -> Result<u16, PlacedFault>
-    ensures value { told (λ n. got n fields.new.at) result ≡ cells_at fields.old.bytes.now fields.old.at }
-    ensures bytes { fields.new.bytes ≡ fields.old.bytes }
-{
-    let field = fields.take(b'T')?;
-    check_length(field, 2)?;
-    check_count(field, word_at(field.content, 0))
-}
-
-/// Refuses a content that has not this length.
-fn check_length(field: Field, len: usize) -> Result<(), PlacedFault>
-    ensures { result ≡ long len (piece field.entry) }
-{
-    if field.content.len() != len {
-        return Err(fault_of_content(Refusal::ContentLength, field.place));
-    }
-    Ok(())
-}
-
-/// Refuses a number of cells that is not allowed.
-fn check_count(field: Field, count: u16) -> Result<u16, PlacedFault>
-    ensures { result ≡ allowed (piece field.entry) count }
-{
-    if count == 0 || count > MAX_CELLS {
-        return Err(fault_of_content(Refusal::OutOfRange, field.place));
+    let [high, low] = content else {
+        return Err(Fault::in_content(Refusal::ContentLength, 0));
+    };
+    let count = u16::from_be_bytes([*high, *low]);
+    if !(1..=MAX_CELLS).contains(&count) {
+        return Err(Fault::in_content(Refusal::OutOfRange, 0));
     }
     Ok(count)
-}
-
-/// A fault of a content goes up whole, with the content's place beside it.
-fn pass_up(fault: Option<Fault>, place: u32) -> Result<(), PlacedFault>
-    ensures { result ≡ lifted place fault }
-{
-    match fault {
-        None => Ok(()),
-        Some(fault) => Err(PlacedFault { fault, place }),
-    }
-}
-
-/// A fault at the first byte of a content.
-fn fault_of_content(refusal: Refusal, place: u32) -> PlacedFault
-    ensures { result ≡ content_fault refusal place }
-{
-    PlacedFault {
-        fault: Fault {
-            refusal,
-            layer: Layer::Content,
-            byte: 0,
-        },
-        place,
-    }
 }

@@ -1,115 +1,79 @@
 //! Runs the check on many bundles and prints the line of each.
 //!
 //! Each line of standard input is one bundle in hexadecimal: two digits make a byte, and all else is passed over. A
-//! line that begins with `#` is printed as it is.
+//! `#` and what follows it up to the line's end is a comment, which is printed as it is; a bundle before it goes on
+//! after it.
 
 #![tactic(auto)]
 
-ghost use Rattle.std.specs.Prelude.{◌≡◌, ◌≤◌};
-ghost use Rattle.fields.specs.Fields.{most_bundle};
-ghost use Rattle.cases.specs.Digits.{digit_value};
+ghost use Rattle.std.specs.Prelude.{◌≡◌, IfOk};
+ghost use Rattle.std.specs.List.{filter_map};
+ghost use Rattle.cases.specs.Digits.{byte_value, digit_value, text_bytes};
 
 use checker::check;
-use fields::MAX_BUNDLE;
-use input::fill;
+use std::alloc::{AllocError, Global};
 use std::io;
+use std::io::Read;
 
 /// The most bytes of the text that is read.
-const TEXT: usize = 65_536;
-
-/// A bundle as far as its text was read.
-#[derive(Drop)]
-struct Draft {
-    bytes: [u8; MAX_BUNDLE],
-    len: usize,
-    /// The first digit of a byte whose second is yet to come.
-    high: Option<u8>,
-    /// Whether the line is one to be printed as it is.
-    comment: bool,
-    ghost within: { len ≤ most_bundle },
-}
-
-impl Draft {
-    /// Nothing read.
-    fn new() -> Draft
-        ensures { result.len ≡ 0 }
-    {
-        Draft {
-            bytes: [0; MAX_BUNDLE],
-            len: 0,
-            high: None,
-            comment: false,
-        }
-    }
-
-    /// One byte more, unless there is no room for it.
-    fn push(&mut self, byte: u8)
-        ensures no_less { self.old.len ≤ self.new.len }
-    {
-        if self.len < MAX_BUNDLE {
-            self.bytes[self.len] = byte;
-            self.len += 1;
-        }
-    }
-}
+const TEXT: u64 = 65_536;
 
 /// The value of a hexadecimal digit.
 fn digit_of(b: u8) -> Option<u8>
     ensures { result ≡ digit_value b }
 {
-    if b >= b'0' && b <= b'9' {
-        Some(b - b'0')
-    } else if b >= b'A' && b <= b'F' {
-        Some(b - b'A' + 10)
-    } else {
-        None
-    }
-}
-
-/// Takes one character of a bundle's text; a second digit makes a byte with the first.
-fn take(draft: &mut Draft, b: u8)
-    ensures no_less { draft.old.len ≤ draft.new.len }
-{
-    if let Some(low) = digit_of(b) {
-        match draft.high {
-            None => draft.high = Some(low),
-            Some(high) => {
-                draft.high = None;
-                draft.push((high % 16) * 16 + low % 16);
-            }
-        }
-    }
-}
-
-/// Takes one character of the text, and prints the comment or the line that it belongs to or ends.
-fn feed(rt: &HostRuntime, draft: &mut Draft, b: u8) -> io::Result<()> {
-    if draft.comment {
-        draft.comment = b != b'\n';
-        return rt.print(char::from(b));
-    }
     match b {
-        b'#' => {
-            draft.comment = true;
-            rt.print('#')
-        }
-        b'\n' => {
-            let line = check(&draft.bytes[0..draft.len]);
-            *draft = Draft::new();
-            println!(rt; "{line}")
-        }
-        _ => {
-            take(draft, b);
-            Ok(())
-        }
+        b'0'..=b'9' => Some(b - b'0'),
+        b'A'..=b'F' => Some(b - b'A' + 10),
+        _ => None,
     }
+}
+
+/// The values of the digits of a text.
+fn digits_of(alloc: Global, text: &[u8]) -> Result<Vec<u8>, AllocError>
+    ensures { IfOk result (λ v. v.items ≡ filter_map digit_value text.now) }
+{
+    text.iter().copied().filter_map(digit_of).collect(alloc)
+}
+
+/// The byte of two digits.
+fn byte_of(pair: &[u8; 2]) -> u8
+    ensures { result ≡ byte_value pair.now }
+{
+    let [high, low] = pair;
+    high % 16 * 16 + low % 16
+}
+
+/// The bytes that a text stands for; a last digit alone makes none.
+fn bytes_of(alloc: Global, text: &[u8]) -> Result<Vec<u8>, AllocError>
+    ensures { IfOk result (λ v. v.items ≡ text_bytes text.now) }
+{
+    let digits = digits_of(alloc, text)?;
+    let (pairs, _) = digits.as_chunks::<2>();
+    pairs.iter().map(byte_of).collect(alloc)
 }
 
 fn main(rt: HostRuntime) -> io::Result<()> {
-    let mut text = [0; TEXT];
-    let len = fill(&mut rt.stdin(), &mut text)?;
-    let mut draft = Draft::new();
-    for b in &text[0..len] {
-        feed(&rt, &mut draft, *b)?;
+    let mut text = Vec::new(rt.alloc());
+    rt.stdin().take(TEXT).read_to_end(&mut text)?;
+    let mut bundle = Vec::new(rt.alloc());
+    for line in text.split_inclusive(|b| *b == b'\n') {
+        match line.iter().position(|b| *b == b'#') {
+            Some(at) => {
+                let (before, comment) = line.split_at(at);
+                bundle.extend_from_slice(before)?;
+                for b in comment {
+                    rt.print(char::from(*b))?;
+                }
+            }
+            None => {
+                bundle.extend_from_slice(line)?;
+                if line.ends_with(b"\n") {
+                    println!(rt; "{}", check(&bytes_of(rt.alloc(), &bundle)?))?;
+                    bundle.clear();
+                }
+            }
+        }
     }
     Ok(())
 }

@@ -1,6 +1,8 @@
 -- What the line of a finished inspection says of its machine and its watcher.
-use Rattle.std.proofs.Common.{◌≡◌, ℕ, ◌≤◌, true, List, ◌++◌, length, drop, replicate, None, sym, refl, ap, ◌∙◌, subst, arith}
+use Rattle.std.proofs.Common.{◌≡◌, ℕ, ◌≤◌, true, List, ◌++◌, length, drop, replicate, None, Ok, Err, Result, sym, refl, ap, ◌∙◌, subst, arith}
 use Rattle.std.proofs.lemmas.Bool.{eq-eqb, le-leb, true≢false}
+use Rattle.refusal.specs.Faults.{fault_in_bundle}
+use Rattle.refusal.specs.declared.Refusal.{Refusal}
 use Rattle.model.specs.Automata.{Automaton}
 use Rattle.model.specs.Graphs.{Graph}
 use Rattle.model.specs.Runs.{Shortest}
@@ -14,10 +16,11 @@ use Rattle.inspection.specs.Searches.{Snapshot, actions, is_decided, reported}
 use Rattle.inspection.specs.Walks.{traced}
 use Rattle.inspection.proofs.Completion.{run_decided, run_invariant, run_law, run_within}
 use Rattle.inspection.proofs.Laws.{decided_verdict, written_shortest}
+use Rattle.line.specs.declared.Line.{Line}
 use Rattle.line.specs.declared.Line.TheVariants.{Broken as BrokenLine}
 use Rattle.line.specs.declared.Trace.{Trace}
 use Rattle.line.specs.Lines.{actions_of, most_trace, trace_of}
-use Rattle.checker.specs.Checked.{finished, inspected_line, traced_line, verdict_line}
+use Rattle.checker.specs.Checked.{finished, inspected_line, or_refused, traced_line, verdict_line}
 use Rattle.checker.specs.Judged.{Judges}
 
 module _ (g : Graph) (w : Automaton) (cs : List Cell) (some : 1 ≤ length cs) (few : length cs ≤ most_trace) where
@@ -92,3 +95,8 @@ module _ (g : Graph) (w : Automaton) (cs : List Cell) (some : 1 ≤ length cs) (
   -- the line of every finished inspection
   pub judges : Judges g w (length cs) (inspected_line g w cs)
   judges = decided_verdict v (λ u. v ≡ u → Judges g w (length cs) (verdict_line g s u)) decided judges_holds judges_broken judges_full refl
+
+  -- so what answers it is accepted
+  pub accepted : (r : Result Line Refusal) → or_refused r ≡ inspected_line g w cs → r ≡ Ok (inspected_line g w cs)
+  accepted (Ok l) e = ap Ok e
+  accepted (Err f) e = absurd (judges.answered (fault_in_bundle f 0) (sym e))

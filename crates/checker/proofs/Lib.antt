@@ -1,4 +1,3 @@
 mod Turns
 mod Judging
-mod Fresh
 mod Composing

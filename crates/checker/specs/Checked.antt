@@ -1,6 +1,7 @@
 -- The line that a bundle's bytes come to.
 use Rattle.std.specs.Prelude.{ℕ, List, ◌++◌, length, drop, replicate, Some, None, Ok, Err, Option, Result}
 use Rattle.refusal.specs.declared.PlacedFault.{PlacedFault}
+use Rattle.refusal.specs.Faults.{fault_in_bundle}
 use Rattle.refusal.specs.declared.Refusal.{Refusal}
 use Rattle.model.specs.Automata.{Automaton}
 use Rattle.model.specs.Graphs.{Graph}
@@ -14,14 +15,23 @@ use Rattle.inspection.specs.Walks.{traced}
 use Rattle.line.specs.declared.Line.{Line}
 use Rattle.line.specs.declared.Line.TheVariants.{Broken as BrokenLine, Holds as HoldsLine, Full as FullLine, Fault as FaultLine}
 use Rattle.line.specs.Lines.{most_trace, trace_of}
-use Rattle.fields.specs.Fields.{bundle_fault}
 use Rattle.bundle.specs.Bundles.{Contents, bundle_of}
 use Rattle.sheet.specs.Sheets.{sheet_meaning}
 use Rattle.watch_table.specs.Tables.{table_meaning}
 
 -- a call that is refused is a fault of the bundle, at its first byte
 abbrev pub refused_line : Refusal → Line
-refused_line e = FaultLine (bundle_fault e 0)
+refused_line e = FaultLine (fault_in_bundle e 0)
+
+-- the line of what a call answers: itself, or that of the refusal
+abbrev pub or_refused : Result Line Refusal → Line
+or_refused (Ok l) = l
+or_refused (Err e) = refused_line e
+
+-- the line of what a bundle comes to: itself, or that of the fault
+abbrev pub or_fault : Result Line PlacedFault → Line
+or_fault (Ok l) = l
+or_fault (Err p) = FaultLine p
 
 -- the run that a trace of the snapshot writes, unless the trace is refused
 abbrev pub traced_line : Option Refusal → Graph → Snapshot → Line

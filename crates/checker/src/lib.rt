@@ -2,18 +2,17 @@
 
 #![tactic(auto)]
 
-ghost use Rattle.std.specs.Prelude.{◌≡◌, ◌≤◌, length, replicate};
+ghost use Rattle.std.specs.Prelude.{◌≡◌, ◌≤◌, length, replicate, Ok};
 ghost use Rattle.inspection.specs.Cells.{blank};
 ghost use Rattle.line.specs.Lines.{most_trace};
 ghost use Rattle.bundle.specs.Bundles.{bundle_of};
-ghost use Rattle.checker.specs.Checked.{checked, inspected_line, refused_line, verdict_line};
-ghost use Rattle.checker.specs.Judged.{Judged, Judges};
+ghost use Rattle.checker.specs.Checked.{checked, inspected_line, or_fault, or_refused, verdict_line};
+ghost use Rattle.checker.specs.Judged.{Judged};
 
-use fields::bundle_fault;
-use inspection::{BLANK, Cell, Inspection, Verdict};
+use inspection::{BLANK, Cell, Inspection, Report, Verdict};
 use line::{Line, MAX_TRACE, Trace};
 use model::{Machine, Watcher};
-use refusal::Refusal;
+use refusal::{PlacedFault, Refusal};
 use sheet::Sheet;
 use watch_table::WatchTable;
 
@@ -30,76 +29,76 @@ pub fn check(bytes: &[u8]) -> Line
     ensures line { result ≡ checked bytes.now }
     ensures law { Judged (bundle_of bytes.now) result }
 {
-    match bundle::read(bytes) {
-        Err(fault) => Line::Fault(fault),
-        Ok(parts) => {
-            let machine = Sheet::new(parts.machine);
-            let watcher = WatchTable::new(parts.watcher);
-            inspect_in(&machine, &watcher, parts.cells)
-        }
-    }
+    inspect_bundle(bytes).unwrap_or_else(Line::Fault)
+}
+
+/// The line of an accepted bundle, or its first fault.
+fn inspect_bundle(bytes: &[u8]) -> Result<Line, PlacedFault>
+    ensures { or_fault result ≡ checked bytes.now }
+{
+    let parts = bundle::read(bytes)?;
+    let machine = Sheet::new(parts.machine);
+    let watcher = WatchTable::new(parts.watcher);
+    let answer = inspect_in(&machine, &watcher, parts.cells);
+    answer.map_err(|refusal| PlacedFault::in_bundle(refusal, 0))
 }
 
 /// The line of an inspection to its end, in a new table of so many cells.
-fn inspect_in<M: Machine, W: Watcher>(machine: &M, watcher: &W, count: u16) -> Line
+// kept: a machine and a watcher as two parameters, here and below, as the calls of an inspection take them.
+fn inspect_in<M: Machine, W: Watcher>(machine: &M, watcher: &W, count: u16) -> Result<Line, Refusal>
     requires some { 1 ≤ count }
     requires few { count ≤ most_trace }
-    ensures line { result ≡ inspected_line (M.graph machine.now) (W.automaton watcher.now) (replicate count blank) }
-    ensures law { Judges (M.graph machine.now) (W.automaton watcher.now) count result }
+    ensures { result ≡ Ok (inspected_line (M.graph machine.now) (W.automaton watcher.now) (replicate count blank)) }
 {
+    // kept: an array of the most cells, of which the first are used, since a library has no heap
     let mut table = [BLANK; TABLE];
-    inspect(machine, watcher, &mut table[0..usize::from(count)])
+    inspect(machine, watcher, &mut table[..usize::from(count)])
 }
 
 /// The line of an inspection to its end, in a table whose every trace can be printed.
-fn inspect<M: Machine, W: Watcher>(machine: &M, watcher: &W, cells: &mut [Cell]) -> Line
+fn inspect<M: Machine, W: Watcher>(
+    machine: &M,
+    watcher: &W,
+    cells: &mut [Cell],
+) -> Result<Line, Refusal>
     requires some { 1 ≤ length cells.old }
     requires few { length cells.old ≤ most_trace }
-    ensures line { result ≡ inspected_line (M.graph machine.now) (W.automaton watcher.now) cells.old }
-    ensures law { Judges (M.graph machine.now) (W.automaton watcher.now) (length cells.old) result }
+    ensures { result ≡ Ok (inspected_line (M.graph machine.now) (W.automaton watcher.now) cells.old) }
 {
     let mut inspection = Inspection::new();
-    if let Err(refusal) = inspection.begin(machine, watcher, cells) {
-        return refused(refusal);
-    }
-    let mut report = inspection.verdict();
-    while let Verdict::Open = report.verdict {
-        match inspection.advance(machine, watcher, cells, BUDGET) {
-            Ok(next) => report = next,
-            Err(refusal) => return refused(refusal),
-        }
+    inspection.begin(machine, watcher, cells)?;
+    while let Verdict::Open = inspection.verdict().verdict {
+        inspection.advance(machine, watcher, cells, BUDGET)?;
     }
     conclude(&inspection, machine, cells)
 }
 
 /// The line of a decided inspection.
-fn conclude<M: Machine>(inspection: &Inspection, machine: &M, cells: &[Cell]) -> Line
-    ensures { result ≡ verdict_line (M.graph machine.now) (record { progress = inspection.now.progress; table = cells.now }) inspection.now.progress.verdict }
+fn conclude<M: Machine>(
+    inspection: &Inspection,
+    machine: &M,
+    cells: &[Cell],
+) -> Result<Line, Refusal>
+    ensures { or_refused result ≡ verdict_line (M.graph machine.now)
+        (record { progress = inspection.now.progress; table = cells.now }) inspection.now.progress.verdict }
 {
-    let report = inspection.verdict();
-    let opened = report.opened;
-    let found = report.found;
-    match report.verdict {
-        Verdict::Holds => Line::Holds { opened, found },
-        Verdict::Full => Line::Full { opened, found },
+    let Report {
+        verdict,
+        opened,
+        found,
+    } = inspection.verdict();
+    match verdict {
+        Verdict::Holds => Ok(Line::Holds { opened, found }),
+        Verdict::Full => Ok(Line::Full { opened, found }),
         _ => {
             let mut buffer = [0; MAX_TRACE];
-            match inspection.trace(machine, cells, &mut buffer) {
-                Ok(actions) => Line::Broken {
-                    actions,
-                    opened,
-                    found,
-                    trace: Trace::new(buffer, actions),
-                },
-                Err(refusal) => refused(refusal),
-            }
+            let actions = inspection.trace(machine, cells, &mut buffer)?;
+            Ok(Line::Broken {
+                actions,
+                opened,
+                found,
+                trace: Trace::new(buffer, actions),
+            })
         }
     }
-}
-
-/// The line of a refused call.
-fn refused(refusal: Refusal) -> Line
-    ensures { result ≡ refused_line refusal }
-{
-    Line::Fault(bundle_fault(refusal, 0))
 }

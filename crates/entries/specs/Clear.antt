@@ -10,9 +10,8 @@ use Rattle.words.specs.Words.{word}
 use Rattle.model.specs.Actions.{action_count}
 use Rattle.refusal.specs.declared.Fault.{Fault}
 use Rattle.entries.specs.declared.Entry.{Entry}
-use Rattle.entries.specs.declared.Key.{Key}
 use Rattle.entries.specs.Limits.{most_sharing, most_size, entry_length}
-use Rattle.entries.specs.Entries.{key_of, sharing}
+use Rattle.entries.specs.Entries.{sharing}
 use Rattle.entries.specs.Faults.{head_fault, entry_fault, entries_fault}
 
 -- where a test gives a fault and there is none, the test failed
@@ -57,29 +56,29 @@ entry_clear size seen e at none =
       few = leb-false _ _ d.0;
     }
 
-module _ (key : Key) (size : ℕ) where
+module _ (key : Entry → ℕ) (size : ℕ) where
   -- entries without a fault are in range
   pub all_in_range : (before es : List Entry) (at : ℕ) → entries_fault key size before es at ≡ None → AllByRecursion (InRange size) es
   all_in_range before [] at none = tt
   all_in_range before (e ∷ es) at none =
-      let parts = or_none (entry_fault size (length (sharing key (key_of key e) before)) e at) _ none in
+      let parts = or_none (entry_fault size (length (sharing key (key e) before)) e at) _ none in
       ((entry_clear size _ e at parts.0).range, all_in_range (before ++ (e ∷ [])) es (at + entry_length) parts.1)
 
   -- one entry more without a fault, and still at most 64 have key s
-  one_more : (s : ℕ) (before : List Entry) (e : Entry) → length (sharing key (key_of key e) before) < most_sharing → length (sharing key s before) ≤ most_sharing → length (sharing key s (before ++ (e ∷ []))) ≤ most_sharing
+  one_more : (s : ℕ) (before : List Entry) (e : Entry) → length (sharing key (key e) before) < most_sharing → length (sharing key s before) ≤ most_sharing → length (sharing key s (before ++ (e ∷ []))) ≤ most_sharing
   one_more s before e few h =
-      elim (cases_Bool (key_of key e == s)) [
-        | inl here ↦ (let same : key_of key e ≡ s = eqb-true _ _ here in
+      elim (cases_Bool (key e == s)) [
+        | inl here ↦ (let same : key e ≡ s = eqb-true _ _ here in
             let few' : length (sharing key s before) < most_sharing = subst (λ (x : ℕ). length (sharing key x before) < most_sharing) same few in
-            rw (filter-append (λ e. nat_eq (key_of key e) s) before (e ∷ []), length-append, here) (omega arith))
-        | inr other ↦ rw (filter-append (λ e. nat_eq (key_of key e) s) before (e ∷ []), length-append, other) (omega arith)
+            rw (filter-append (λ e. nat_eq (key e) s) before (e ∷ []), length-append, here) (omega arith))
+        | inr other ↦ rw (filter-append (λ e. nat_eq (key e) s) before (e ∷ []), length-append, other) (omega arith)
       ]
 
   -- of entries without a fault, at most 64 have key s
   pub few_share : (s : ℕ) (before es : List Entry) (at : ℕ) → entries_fault key size before es at ≡ None → length (sharing key s before) ≤ most_sharing → length (sharing key s (before ++ es)) ≤ most_sharing
   few_share s before [] at none h = rw append-nil h
   few_share s before (e ∷ es) at none h =
-      let parts = or_none (entry_fault size (length (sharing key (key_of key e) before)) e at) _ none in
+      let parts = or_none (entry_fault size (length (sharing key (key e) before)) e at) _ none in
       rw append_assoc at (few_share s (before ++ (e ∷ [])) es (at + entry_length) parts.1 (one_more s before e (entry_clear size _ e at parts.0).few h))
 
 -- the size is from 1 to 1,024, and the start below it

@@ -4,21 +4,24 @@ use Rattle.std.specs.Option.{option_or}
 use Rattle.words.specs.Words.{word}
 use Rattle.model.specs.Actions.{action_count}
 use Rattle.refusal.specs.declared.Fault.{Fault}
-use Rattle.refusal.specs.declared.Layer.TheVariants.{Content}
 use Rattle.refusal.specs.declared.Refusal.{Refusal}
-use Rattle.refusal.specs.declared.Refusal.TheVariants.{OutOfRange, TooMany}
+use Rattle.refusal.specs.declared.Refusal.TheVariants.{ContentLength, OutOfRange, TooMany}
+use Rattle.refusal.specs.Faults.{fault_in_content}
 use Rattle.entries.specs.declared.Entry.{Entry}
-use Rattle.entries.specs.declared.Key.{Key}
 use Rattle.entries.specs.Limits.{most_entries, most_sharing, most_size, entry_length}
-use Rattle.entries.specs.Entries.{key_of, sharing, entry_list}
+use Rattle.entries.specs.Entries.{sharing, entry_list}
 
 -- a fault of a content, at a byte of it
 abbrev pub content_fault : Refusal → ℕ → Option Fault
-content_fault refusal at = Some (record { refusal = refusal; layer = Content; byte = at })
+content_fault refusal at = Some (fault_in_content refusal at)
 
 -- n bytes do not hold whole entries, 4,000 at most, from base on
 abbrev pub wrong_length : ℕ → ℕ → Bool
 wrong_length base n = nat_lt n base || (not ((n - base) % entry_length == 0) || nat_lt most_entries ((n - base) / entry_length))
+
+-- the fault of n bytes that do not hold whole entries, 4,000 at most, from base on
+abbrev pub length_fault : ℕ → ℕ → Option Fault
+length_fault base n = cond (wrong_length base n) (content_fault ContentLength 0) None
 
 -- the size is 0 or too large, or the start is not below it
 abbrev pub head_fault : List ℕ → Option Fault
@@ -35,12 +38,12 @@ entry_fault size seen e at =
     (cond (nat_le most_sharing seen) (content_fault TooMany at) None)))
 
 -- the first fault of entries from a byte on, where others stand before them
-abbrev pub entries_fault : Key → ℕ → List Entry → List Entry → ℕ → Option Fault
+abbrev pub entries_fault : (Entry → ℕ) → ℕ → List Entry → List Entry → ℕ → Option Fault
 entries_fault key size before [] at = None
 entries_fault key size before (e ∷ es) at =
-    option_or (entry_fault size (length (sharing key (key_of key e) before)) e at)
+    option_or (entry_fault size (length (sharing key (key e) before)) e at)
     (entries_fault key size (before ++ (e ∷ [])) es (at + entry_length))
 
 -- the first fault of the entries behind a base
-abbrev pub first_entry_fault : Key → ℕ → List ℕ → ℕ → Option Fault
+abbrev pub first_entry_fault : (Entry → ℕ) → ℕ → List ℕ → ℕ → Option Fault
 first_entry_fault key size bytes base = entries_fault key size [] (entry_list bytes base) base

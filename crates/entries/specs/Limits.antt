@@ -1,5 +1,6 @@
 -- The limits of sheets and tables.
-use Rattle.std.specs.Prelude.{ℕ}
+use Rattle.std.specs.Prelude.{ℕ, ◌*◌}
+use Rattle.model.specs.Actions.{action_count}
 
 -- the most entries
 abbrev pub most_entries : ℕ
@@ -12,6 +13,10 @@ most_sharing = 64
 -- the largest size
 abbrev pub most_size : ℕ
 most_size = 1024
+
+-- the keys of entries in range lie below it
+abbrev pub most_keys : ℕ
+most_keys = most_size * action_count
 
 -- the bytes of an entry
 abbrev pub entry_length : ℕ

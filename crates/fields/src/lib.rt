@@ -4,11 +4,11 @@
 
 #![tactic(auto)]
 
-ghost use Rattle.std.specs.Prelude.{◌≡◌, ◌≤◌, length, take};
-ghost use Rattle.fields.specs.Fields.{bundle_fault, due_at, ended, most_bundle, moved, needed, piece, pieced, sized, stood, told};
+ghost use Rattle.std.specs.Prelude.{◌≡◌, ◌≤◌, IfOk, Result, length, option_map, take};
+ghost use Rattle.refusal.specs.declared.Fault.{Fault};
+ghost use Rattle.fields.specs.Fields.{at_place, due_at, ended, most_bundle, moved, needed, piece, sized, stood, told};
 
-use refusal::{Fault, Layer, PlacedFault, Refusal};
-use words::word_at;
+use refusal::{Fault, PlacedFault, Refusal};
 
 /// The most bytes of a bundle.
 pub const MAX_BUNDLE: usize = 32_768;
@@ -17,14 +17,27 @@ pub const MAX_BUNDLE: usize = 32_768;
 const HEADER: usize = 3;
 
 /// A field's content, and the byte of the bundle where it begins.
-#[derive(Clone, Copy)]
+#[derive(Clone, Copy, Debug)]
 pub struct Field<'a> {
     pub content: &'a [u8],
     pub place: u32,
 }
 
+impl<'a> Field<'a> {
+    /// What `reader` makes of the content, or the fault that it finds in it, placed where the content begins.
+    pub fn read<T, R: FnOnce(&'a [u8]) -> Result<T, Fault>>(
+        self,
+        reader: R,
+    ) -> Result<T, PlacedFault>
+        requires { R.pre reader self.content }
+        ensures { (r : Result T Fault) × R.post reader self.entry.content r × (result ≡ at_place self.entry.place r) }
+    {
+        reader(self.content).map_err(|fault| fault.at(self.place))
+    }
+}
+
 /// The fields of a bundle that are not yet taken: those from byte `at` on.
-#[derive(Drop)]
+#[derive(Debug, Drop)]
 pub struct Fields<'a> {
     bytes: &'a [u8],
     at: usize,
@@ -38,11 +51,8 @@ impl<'a> Fields<'a> {
         ensures bytes { result.bytes.now ≡ take most_bundle bytes.now }
         ensures at { result.at ≡ 0 }
     {
-        if bytes.len() < MAX_BUNDLE {
-            return Fields { bytes, at: 0 };
-        }
         Fields {
-            bytes: &bytes[0..MAX_BUNDLE],
+            bytes: &bytes[..bytes.len().min(MAX_BUNDLE)],
             at: 0,
         }
     }
@@ -50,26 +60,24 @@ impl<'a> Fields<'a> {
     /// The next field if it has this tag, and nothing if it has another or none is left. A field that is not whole is
     /// a fault. Only a field that is handed out is taken.
     pub fn due(&mut self, tag: u8) -> Result<Option<Field<'a>>, PlacedFault>
-        ensures value { told pieced result ≡ due_at self.old.bytes.now self.old.at tag }
-        ensures at { self.new.at ≡ moved self.old.at (told pieced result) }
+        ensures value { told (option_map piece) result ≡ due_at self.old.bytes.now self.old.at tag }
+        ensures at { self.new.at ≡ moved self.old.at (told (option_map piece) result) }
         ensures bytes { self.new.bytes ≡ self.old.bytes }
     {
-        let bytes = self.bytes;
-        let at = self.at;
-        if at >= bytes.len() || bytes[at] != tag {
+        let left = &self.bytes[self.at..];
+        if left.first() != Some(&tag) {
             return Ok(None);
         }
-        if bytes.len() - at < HEADER {
-            return Err(bundle_fault(Refusal::FieldPastEnd, at as u32));
-        }
-        let place = at + HEADER;
-        let len = usize::from(word_at(bytes, at + 1));
-        if bytes.len() - place < len {
-            return Err(bundle_fault(Refusal::FieldPastEnd, at as u32));
-        }
+        let cut = PlacedFault::in_bundle(Refusal::FieldPastEnd, self.at as u32);
+        let [_, high, low, rest @ ..] = left else {
+            return Err(cut);
+        };
+        let len = usize::from(u16::from_be_bytes([*high, *low]));
+        let content = rest.get(..len).ok_or(cut)?;
+        let place = self.at + HEADER;
         self.at = place + len;
         Ok(Some(Field {
-            content: &bytes[place..place + len],
+            content,
             place: place as u32,
         }))
     }
@@ -80,10 +88,8 @@ impl<'a> Fields<'a> {
         ensures at { self.new.at ≡ stood self.old.at (told piece result) }
         ensures bytes { self.new.bytes ≡ self.old.bytes }
     {
-        let Some(field) = self.due(tag)? else {
-            return Err(bundle_fault(Refusal::FieldOrder, self.at as u32));
-        };
-        Ok(field)
+        let missing = PlacedFault::in_bundle(Refusal::FieldOrder, self.at as u32);
+        self.due(tag)?.ok_or(missing)
     }
 
     /// Nothing, or the fault that something is left.
@@ -91,9 +97,22 @@ impl<'a> Fields<'a> {
         ensures { result ≡ ended self.now.bytes.now self.now.at }
     {
         if self.at < self.bytes.len() {
-            return Err(bundle_fault(Refusal::FieldOrder, self.at as u32));
+            return Err(PlacedFault::in_bundle(Refusal::FieldOrder, self.at as u32));
         }
         Ok(())
+    }
+}
+
+/// All fields of a bundle, or the fault of an empty or an overlong one.
+impl<'a> TryFrom<&'a [u8]> for Fields<'a> {
+    type Error = PlacedFault;
+
+    ghost try_from_gives = { λ bytes result. (told (λ _. tt) result ≡ sized bytes.now)
+        × IfOk result (λ fields. (fields.bytes.now ≡ bytes.now) × (fields.at ≡ 0)) };
+
+    fn try_from(bytes: &'a [u8]) -> Result<Fields<'a>, PlacedFault> {
+        check_size(bytes)?;
+        Ok(Fields::new(bytes))
     }
 }
 
@@ -101,22 +120,8 @@ impl<'a> Fields<'a> {
 pub fn check_size(bytes: &[u8]) -> Result<(), PlacedFault>
     ensures { result ≡ sized bytes.now }
 {
-    if bytes.len() == 0 || bytes.len() > MAX_BUNDLE {
-        return Err(bundle_fault(Refusal::BundleSize, 0));
+    if bytes.is_empty() || bytes.len() > MAX_BUNDLE {
+        return Err(PlacedFault::in_bundle(Refusal::BundleSize, 0));
     }
     Ok(())
-}
-
-/// A fault of the bundle itself.
-pub fn bundle_fault(refusal: Refusal, byte: u32) -> PlacedFault
-    ensures { result ≡ bundle_fault refusal byte }
-{
-    PlacedFault {
-        fault: Fault {
-            refusal,
-            layer: Layer::Bundle,
-            byte,
-        },
-        place: 0,
-    }
 }

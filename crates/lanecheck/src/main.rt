@@ -19,9 +19,10 @@ fn main(rt: HostRuntime) -> io::Result<()> {
 
 /// Reads, calls and prints.
 fn run(rt: &HostRuntime) -> io::Result<()> {
+    // kept: an array and the length of what was read, since this program has no heap
     let mut room = empty_room();
     let len = fill(&mut rt.stdin(), &mut room)?;
-    let line = check(&room[0..len]);
+    let line = check(&room[..len]);
     println!(rt; "{line}")
 }
 

@@ -1,7 +1,7 @@
 -- The bytes of the line that is printed, without the line feed that ends it.
 use Rattle.std.specs.Prelude.{ℕ, List, [], ◌∷◌, ◌++◌, take, codes, decimal}
 use Rattle.refusal.specs.declared.PlacedFault.{PlacedFault}
-use Rattle.refusal.specs.Numbers.{number, layer_number, byte_in_bundle}
+use Rattle.refusal.specs.Faults.{fault_bytes}
 use Rattle.line.specs.declared.Line.{Line}
 use Rattle.line.specs.declared.Line.TheVariants.{Broken, Holds, Full, Fault}
 use Rattle.line.specs.declared.Trace.{Trace}
@@ -38,7 +38,7 @@ abbrev pub full_line : ℕ → ℕ → List ℕ
 full_line opened found = codes "full" ++ counts opened found
 
 abbrev pub fault_line : PlacedFault → List ℕ
-fault_line p = codes "fault " ++ (decimal (number p.fault.refusal) ++ (codes " layer " ++ (decimal (layer_number p.fault.layer) ++ (codes " at " ++ decimal (byte_in_bundle p)))))
+fault_line p = fault_bytes p
 
 abbrev pub line_bytes : Line → List ℕ
 line_bytes (Broken actions opened found trace) = broken_line actions opened found (actions_of trace)

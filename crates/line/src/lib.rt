@@ -17,17 +17,16 @@ pub const MAX_TRACE: usize = 1_024;
 pub fn letter_of(action: u8) -> char
     ensures { result ≡ letter action }
 {
-    if action == 0 {
-        '-'
-    } else if action < ACTIONS {
-        char::from(96 + action)
-    } else {
-        '?'
+    match action {
+        0 => '-',
+        1..ACTIONS => char::from(b'a' + (action - 1)),
+        _ => '?',
     }
 }
 
 /// The actions of a run, printed as their letters.
-#[derive(Drop)]
+// kept: a fixed buffer and its length, since the libraries use no heap and a line owns its trace.
+#[derive(Debug, Drop)]
 pub struct Trace {
     buffer: [u8; MAX_TRACE],
     len: u32,
@@ -46,12 +45,7 @@ impl Trace {
         ensures actions { result.now ≡ actions_of self.now }
         ensures few { length result.now ≤ most_trace }
     {
-        let len = self.len as usize;
-        if len < MAX_TRACE {
-            &self.buffer[0..len]
-        } else {
-            &self.buffer
-        }
+        &self.buffer[..(self.len as usize).min(MAX_TRACE)]
     }
 }
 
@@ -67,7 +61,9 @@ impl fmt::Display for Trace {
 }
 
 /// What a check came to: the verdict with its counts, and the run where one is condemned; or the fault of the bundle.
-#[derive(Drop)]
+// kept: `opened` and `found` in each variant, since a struct of the two would stand in every pattern and in every
+// definition of what a line says, and only the printing treats them as one.
+#[derive(Debug, Drop)]
 pub enum Line {
     Broken {
         actions: u32,
@@ -98,20 +94,14 @@ impl fmt::Display for Line {
                 trace,
             } => {
                 write!(f, "broken {actions} opened {opened} found {found} trace")?;
-                if trace.actions().is_empty() {
-                    Ok(())
-                } else {
-                    write!(f, " {trace}")
+                if !trace.actions().is_empty() {
+                    write!(f, " {trace}")?;
                 }
+                Ok(())
             }
             Line::Holds { opened, found } => write!(f, "holds opened {opened} found {found}"),
             Line::Full { opened, found } => write!(f, "full opened {opened} found {found}"),
-            Line::Fault(placed) => {
-                let number = placed.fault.refusal.number();
-                let layer = placed.fault.layer.number();
-                let at = placed.byte();
-                write!(f, "fault {number} layer {layer} at {at}")
-            }
+            Line::Fault(placed) => write!(f, "{placed}"),
         }
     }
 }

@@ -1,4 +1,5 @@
 pub mod Actions
 pub mod Graphs
 pub mod Automata
+pub mod Lists
 pub mod Runs

@@ -2,11 +2,14 @@
 
 #![tactic(auto)]
 
-ghost use Rattle.std.specs.Prelude.{◌≡◌};
+ghost use Rattle.std.specs.Prelude.{◌≡◌, Some};
+ghost use Rattle.refusal.specs.Faults.{fault_at, fault_bytes, fault_in_bundle, fault_in_content};
 ghost use Rattle.refusal.specs.Numbers.{number, layer_number, byte_in_bundle};
 
+use std::fmt;
+
 /// Every refusal, with the number by which it is known.
-#[derive(Clone, Copy)]
+#[derive(Clone, Copy, Debug, PartialEq, Eq)]
 pub enum Refusal {
     /// The bundle is empty or longer than a bundle may be.
     BundleSize = 1,
@@ -41,7 +44,7 @@ pub enum Refusal {
 }
 
 /// Who found a fault.
-#[derive(Clone, Copy)]
+#[derive(Clone, Copy, Debug, PartialEq, Eq)]
 pub enum Layer {
     /// The bundle: its size, or the order and lengths of its fields.
     Bundle = 1,
@@ -51,7 +54,7 @@ pub enum Layer {
 
 /// What is wrong with handed bytes: the refusal, the layer that found it, and the byte where it lies, counted from
 /// the first byte that the layer was handed.
-#[derive(Clone, Copy)]
+#[derive(Clone, Copy, Debug, PartialEq, Eq)]
 pub struct Fault {
     pub refusal: Refusal,
     pub layer: Layer,
@@ -60,13 +63,63 @@ pub struct Fault {
 
 /// A fault as it was found, and beside it the place in the bundle of what its layer was handed: the byte where the
 /// field's content begins, or 0 for a fault of the bundle itself.
-#[derive(Clone, Copy)]
+#[derive(Clone, Copy, Debug, PartialEq, Eq)]
 pub struct PlacedFault {
     pub fault: Fault,
     pub place: u32,
 }
 
+/// The number by which the refusal is known and printed.
+impl From<Refusal> for u8 {
+    ghost from_gives = { λ refusal result. result ≡ number refusal };
+
+    fn from(refusal: Refusal) -> u8 {
+        refusal as u8
+    }
+}
+
+/// The number by which the layer is known and printed.
+impl From<Layer> for u8 {
+    ghost from_gives = { λ layer result. result ≡ layer_number layer };
+
+    fn from(layer: Layer) -> u8 {
+        layer as u8
+    }
+}
+
+impl Fault {
+    /// A fault of a content, at a byte of it.
+    pub fn in_content(refusal: Refusal, byte: u32) -> Fault
+        ensures { result ≡ fault_in_content refusal byte }
+    {
+        Fault {
+            refusal,
+            layer: Layer::Content,
+            byte,
+        }
+    }
+
+    /// The fault, with the place in the bundle of what its layer was handed.
+    pub fn at(self, place: u32) -> PlacedFault
+        ensures { result ≡ fault_at self place }
+    {
+        PlacedFault { fault: self, place }
+    }
+}
+
 impl PlacedFault {
+    /// A fault of the bundle itself, at a byte of it.
+    pub fn in_bundle(refusal: Refusal, byte: u32) -> PlacedFault
+        ensures { result ≡ fault_in_bundle refusal byte }
+    {
+        Fault {
+            refusal,
+            layer: Layer::Bundle,
+            byte,
+        }
+        .at(0)
+    }
+
     /// The byte of the bundle where the fault lies.
     pub fn byte(self) -> u64
         ensures { result ≡ byte_in_bundle self }
@@ -75,20 +128,13 @@ impl PlacedFault {
     }
 }
 
-impl Refusal {
-    /// The number by which the refusal is known and printed.
-    pub fn number(self) -> u8
-        ensures { result ≡ number self }
-    {
-        self as u8
-    }
-}
+impl fmt::Display for PlacedFault {
+    ghost output = { λ placed. Some (fault_bytes placed) };
 
-impl Layer {
-    /// The number by which the layer is known and printed.
-    pub fn number(self) -> u8
-        ensures { result ≡ layer_number self }
-    {
-        self as u8
+    fn fmt<W: fmt::Write>(&self, f: &mut fmt::Formatter<W>) -> fmt::Result {
+        let number = u8::from(self.fault.refusal);
+        let layer = u8::from(self.fault.layer);
+        let at = self.byte();
+        write!(f, "fault {number} layer {layer} at {at}")
     }
 }

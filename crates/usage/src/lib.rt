@@ -40,7 +40,7 @@ pub fn begin_again<M: Machine, W: Watcher>(machine: &M, watcher: &W, cells: &mut
 mod tests {
     use actions::{ActionMap, ActionSet};
     use checker::check as check_bundle;
-    use entries::{Entries, EntryIndex, Key};
+    use entries::{BySource, Entries, EntryIndex};
     use inspection::{BLANK, Inspection, Verdict};
     use join::{Join, check_limits};
     use line::Line;
@@ -52,27 +52,24 @@ mod tests {
 
     // Of three entries, the first and the last leave source 2.
     #[test]
-    fn entries_by_source(rt: HostRuntime) -> Result<(), Fail> {
+    fn entries_by_source(rt: HostRuntime) {
         let bytes = [0, 2, 5, 0, 1, 0, 0, 6, 0, 0, 0, 2, 7, 0, 3];
         let entries = Entries {
             bytes: &bytes,
             base: 0,
-            key: Key::Source,
         };
-        let index: EntryIndex<4> = EntryIndex::new(entries);
+        let index: EntryIndex<BySource, 4> = EntryIndex::new(entries);
         assert_eq!(rt; index.count(2), 2);
-        assert_eq!(rt; index.get(2, 1).ok_or("no second entry")?.action, 7);
-        Ok(())
+        assert_eq!(rt; index.get(2, 1).map(|entry| entry.action), Some(7));
     }
 
     // Two states: the quiet move leads from each to the other, and action 5 leads from state 0 back to it.
     #[test]
-    fn moves_stand_in_sheet_order(rt: HostRuntime) -> Result<(), Fail> {
+    fn moves_stand_in_sheet_order(rt: HostRuntime) {
         let bytes = [0, 2, 0, 0, 0, 0, 0, 0, 1, 0, 1, 0, 0, 0, 0, 0, 5, 0, 0];
         let sheet = Sheet::new(&bytes);
         assert_eq!(rt; sheet.move_count(0), 2);
-        assert_eq!(rt; sheet.move_at(0, 1).ok_or("no second move")?.action, 5);
-        Ok(())
+        assert_eq!(rt; sheet.move_at(0, 1).map(|second| second.action), Some(5));
     }
 
     // Bytes that are no sheet make one state and no moves.
@@ -88,8 +85,8 @@ mod tests {
     fn too_many_entries(rt: HostRuntime) -> Result<(), Fail> {
         let mut bytes = [0; 20_009];
         bytes[1] = 1;
-        let fault = sheet::first_fault(&bytes).ok_or("no fault")?;
-        assert_eq!(rt; fault.refusal.number(), 4);
+        let fault = sheet::check(&bytes).err().ok_or("no fault")?;
+        assert_eq!(rt; u8::from(fault.refusal), 4);
         assert_eq!(rt; fault.byte, 0);
         Ok(())
     }
@@ -107,19 +104,16 @@ mod tests {
     // Action 1 is shared, 2 is taken by the left alone and 3 by the right alone. The pair of left l and right r is
     // state 2 l + r.
     #[test]
-    fn joined_moves(rt: HostRuntime) -> Result<(), Fail> {
+    fn joined_moves(rt: HostRuntime) {
         let left = Sheet::new(&[0, 2, 0, 0, 0, 0, 1, 0, 1, 0, 0, 2, 0, 0]);
         let right = Sheet::new(&[0, 2, 0, 0, 0, 0, 3, 0, 1, 0, 0, 1, 0, 1]);
         let join = Join::new(left, right, ActionSet::new(2));
         assert_eq!(rt; join.move_count(0), 3);
-        let both = join.move_at(0, 0).ok_or("no shared move")?;
-        assert!(rt; both.action == 1 && both.target == 3);
-        let alone = join.move_at(0, 1).ok_or("no left move")?;
-        assert!(rt; alone.action == 2 && alone.target == 0);
-        let last = join.move_at(0, 2).ok_or("no right move")?;
-        assert!(rt; last.action == 3 && last.target == 1);
-        assert!(rt; join.move_at(0, 3).is_none());
-        Ok(())
+        let move_at = |k| join.move_at(0, k).map(|found| (found.action, found.target));
+        assert_eq!(rt; move_at(0), Some((1, 3)));
+        assert_eq!(rt; move_at(1), Some((2, 0)));
+        assert_eq!(rt; move_at(2), Some((3, 1)));
+        assert_eq!(rt; move_at(3), None);
     }
 
     // Sheets of 1,024 states each: two may be joined, and three may not.
@@ -129,18 +123,17 @@ mod tests {
         let two = Join::new(Sheet::new(&[4, 0, 0, 0]), Sheet::new(&[4, 0, 0, 0]), none);
         let third = Sheet::new(&[4, 0, 0, 0]);
         assert_eq!(rt; two.size(), 1_048_576);
-        assert!(rt; matches!(check_limits(&two, &third), Err(refusal) if refusal.number() == 14));
+        assert_eq!(rt; check_limits(&two, &third).map_err(u8::from), Err(14));
         assert_eq!(rt; Join::new(two, third, none).size(), 1);
     }
 
     // The map writes every action as action 5.
     #[test]
-    fn renamed_moves(rt: HostRuntime) -> Result<(), Fail> {
+    fn renamed_moves(rt: HostRuntime) {
         let sheet = Sheet::new(&[0, 1, 0, 0, 0, 0, 3, 0, 0]);
         let renamed = Rename::new(sheet, ActionMap::new(&[5; 16]));
-        assert_eq!(rt; renamed.move_at(0, 0).ok_or("no move")?.action, 5);
-        assert!(rt; renamed.move_at(0, 1).is_none());
-        Ok(())
+        assert_eq!(rt; renamed.move_at(0, 0).map(|first| first.action), Some(5));
+        assert_eq!(rt; renamed.move_at(0, 1), None);
     }
 
     // One state with a quiet move; two quiet actions condemn. One opening leaves the verdict open.
@@ -158,13 +151,13 @@ mod tests {
                 .advance(&machine, &watcher, &mut cells, 1)
                 .is_ok()
         );
-        assert!(rt; matches!(inspection.verdict().verdict, Verdict::Open));
+        assert_eq!(rt; inspection.verdict().verdict, Verdict::Open);
         assert!(rt;
             inspection
                 .advance(&machine, &watcher, &mut cells, 10_000)
                 .is_ok()
         );
-        assert!(rt; matches!(inspection.verdict().verdict, Verdict::Broken(2)));
+        assert_eq!(rt; inspection.verdict().verdict, Verdict::Broken(2));
         assert!(rt; inspection.trace(&machine, &cells, &mut buffer).is_ok());
         assert_eq!(rt; buffer, [0, 0, 9]);
     }
@@ -173,10 +166,10 @@ mod tests {
     #[test]
     fn longest_bundle(rt: HostRuntime) {
         assert!(rt;
-            matches!(check_bundle(&[77; 32_769]), Line::Fault(p) if p.fault.refusal.number() == 1)
+            matches!(check_bundle(&[77; 32_769]), Line::Fault(p) if u8::from(p.fault.refusal) == 1)
         );
         assert!(rt;
-            matches!(check_bundle(&[0; 32_768]), Line::Fault(p) if p.fault.refusal.number() == 3)
+            matches!(check_bundle(&[0; 32_768]), Line::Fault(p) if u8::from(p.fault.refusal) == 3)
         );
     }
 }

@@ -9,16 +9,12 @@ ghost use Rattle.words.specs.Words.{word};
 pub fn byte_at(bytes: &[u8], at: usize) -> u8
     ensures { result ≡ slice_index bytes.now at }
 {
-    if at < bytes.len() { bytes[at] } else { 0 }
+    bytes.get(at).copied().unwrap_or(0)
 }
 
 /// The number in the two bytes at a place, the high byte first.
 pub fn word_at(bytes: &[u8], at: usize) -> u16
     ensures { result ≡ word bytes.now at }
 {
-    if at < bytes.len() {
-        u16::from(bytes[at]) * 256 + u16::from(byte_at(bytes, at + 1))
-    } else {
-        0
-    }
+    u16::from_be_bytes([byte_at(bytes, at), byte_at(bytes, at.saturating_add(1))])
 }

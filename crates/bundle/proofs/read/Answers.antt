@@ -1,74 +1,67 @@
-use Rattle.std.proofs.Common.{refl, ap, ◌∙◌}
-use Rattle.bundle.specs.declared.Kind.TheVariants.{Sheet, WatchTable}
-use Rattle.bundle.specs.Bundles.{bundle_of, kind_fault, machine_tag, watcher_tag}
-use Rattle.bundle.proofs.Chaining.{go, stop, out, checked_on, cells_on, ended_on, whole}
+use Rattle.sheet.specs.Sheets.{sheet_fault}
+use Rattle.watch_table.specs.Tables.{table_fault}
+use Rattle.bundle.specs.Bundles.{machine_tag, watcher_tag}
+use Rattle.bundle.proofs.Chaining.{out, opened, refused, absent, faulty, sound, no_cells, bad_cells, good_cells, nothing_left, something_left, from_watcher, from_cells, from_end}
 use Rattle.bundle.proofs.Accepting.{accepts}
 use Rattle.bundle.proofs.read.Goals as goal
 
-pub returns-in_err-check_size : goal.returns-in_err-check_size
-unfolding bundle_of
-returns-in_err-check_size c = record {
-  answer =
-      out _ _ _ _ c.from_residual.ensures.1
-      (stop _ c.in_err-check_size.ensures);
-  accepts = accepts _;
-}
+pub returns-in_err-fields : goal.returns-in_err-fields
+returns-in_err-fields c = record { answer = out _ _ _ _ c.from_residual.ensures.1 (refused _ _ c.in_err-fields.ensures.0); accepts = accepts _ }
 
 pub returns-in_err-machine : goal.returns-in_err-machine
-unfolding bundle_of
-returns-in_err-machine c = record {
-  answer =
-      out _ _ _ _ c.from_residual-in_err-machine.ensures.1
-      (go _ c.in_ok-check_size.ensures
-      (stop _ (checked_on (kind_fault Sheet) machine_tag (c.new-fields.ensures.bytes ∙ whole _ c.in_ok-check_size.ensures) c.new-fields.ensures.at c.in_err-machine.ensures.value)));
-  accepts = accepts _;
-}
+returns-in_err-machine c =
+    let first = opened _ _ _ c.in_ok-fields.ensures in
+    let answer = absent _ _ _ _ _ sheet_fault machine_tag (from_watcher _) _ first c.in_err-machine.ensures in
+    record { answer = out _ _ _ _ c.from_residual-in_err-machine.ensures.1 answer; accepts = accepts _ }
+
+pub returns-in_err-read : goal.returns-in_err-read
+returns-in_err-read c =
+    let first = opened _ _ _ c.in_ok-fields.ensures in
+    let answer = faulty _ _ _ _ _ sheet_fault machine_tag (from_watcher _) _ _ first c.in_ok-machine.ensures c.in_err-read.ensures in
+    record { answer = out _ _ _ _ c.from_residual-in_err-read.ensures.1 answer; accepts = accepts _ }
 
 pub returns-in_err-watcher : goal.returns-in_err-watcher
-unfolding bundle_of
-returns-in_err-watcher c = record {
-  answer =
-      out _ _ _ _ c.from_residual-in_err-watcher.ensures.1
-      (go _ c.in_ok-check_size.ensures
-      (go _ (checked_on (kind_fault Sheet) machine_tag (c.new-fields.ensures.bytes ∙ whole _ c.in_ok-check_size.ensures) c.new-fields.ensures.at c.in_ok-machine.ensures.value)
-      (stop _ (checked_on (kind_fault WatchTable) watcher_tag (ap (λ x. x.now) c.take_checked.ensures.bytes ∙ c.new-fields.ensures.bytes ∙ whole _ c.in_ok-check_size.ensures) refl c.in_err-watcher.ensures.value))));
-  accepts = accepts _;
-}
+returns-in_err-watcher c =
+    let first = opened _ _ _ c.in_ok-fields.ensures in
+    let second = sound _ _ _ _ _ sheet_fault machine_tag (from_watcher _) _ _ first c.in_ok-machine.ensures c.in_ok-read.ensures in
+    let answer = absent _ _ _ _ _ table_fault watcher_tag (from_cells _ _) _ second c.in_err-watcher.ensures in
+    record { answer = out _ _ _ _ c.from_residual-in_err-watcher.ensures.1 answer; accepts = accepts _ }
+
+pub returns-in_err-read-2 : goal.returns-in_err-read-2
+returns-in_err-read-2 c =
+    let first = opened _ _ _ c.in_ok-fields.ensures in
+    let second = sound _ _ _ _ _ sheet_fault machine_tag (from_watcher _) _ _ first c.in_ok-machine.ensures c.in_ok-read.ensures in
+    let answer = faulty _ _ _ _ _ table_fault watcher_tag (from_cells _ _) _ _ second c.in_ok-watcher.ensures c.in_err-read-2.ensures in
+    record { answer = out _ _ _ _ c.from_residual-in_err-read-2.ensures.1 answer; accepts = accepts _ }
+
+pub returns-in_err-take : goal.returns-in_err-take
+returns-in_err-take c =
+    let first = opened _ _ _ c.in_ok-fields.ensures in
+    let second = sound _ _ _ _ _ sheet_fault machine_tag (from_watcher _) _ _ first c.in_ok-machine.ensures c.in_ok-read.ensures in
+    let third = sound _ _ _ _ _ table_fault watcher_tag (from_cells _ _) _ _ second c.in_ok-watcher.ensures c.in_ok-read-2.ensures in
+    let answer = no_cells _ _ _ _ _ (from_end _ _ _) _ third c.in_err-take.ensures in
+    record { answer = out _ _ _ _ c.from_residual-in_err-take.ensures.1 answer; accepts = accepts _ }
 
 pub returns-in_err-cells : goal.returns-in_err-cells
-unfolding bundle_of
-returns-in_err-cells c = record {
-  answer =
-      out _ _ _ _ c.from_residual-in_err-cells.ensures.1
-      (go _ c.in_ok-check_size.ensures
-      (go _ (checked_on (kind_fault Sheet) machine_tag (c.new-fields.ensures.bytes ∙ whole _ c.in_ok-check_size.ensures) c.new-fields.ensures.at c.in_ok-machine.ensures.value)
-      (go _ (checked_on (kind_fault WatchTable) watcher_tag (ap (λ x. x.now) c.take_checked.ensures.bytes ∙ c.new-fields.ensures.bytes ∙ whole _ c.in_ok-check_size.ensures) refl c.in_ok-watcher.ensures.value)
-      (stop _ (cells_on _ (ap (λ x. x.now) c.take_checked-2.ensures.bytes ∙ ap (λ x. x.now) c.take_checked.ensures.bytes ∙ c.new-fields.ensures.bytes ∙ whole _ c.in_ok-check_size.ensures) c.in_err-cells.ensures.value)))));
-  accepts = accepts _;
-}
+returns-in_err-cells c =
+    let first = opened _ _ _ c.in_ok-fields.ensures in
+    let second = sound _ _ _ _ _ sheet_fault machine_tag (from_watcher _) _ _ first c.in_ok-machine.ensures c.in_ok-read.ensures in
+    let third = sound _ _ _ _ _ table_fault watcher_tag (from_cells _ _) _ _ second c.in_ok-watcher.ensures c.in_ok-read-2.ensures in
+    let answer = bad_cells _ _ _ _ _ (from_end _ _ _) _ _ third c.in_ok-take.ensures c.in_err-cells.ensures in
+    record { answer = out _ _ _ _ c.from_residual-in_err-cells.ensures.1 answer; accepts = accepts _ }
 
 pub returns-in_err-end : goal.returns-in_err-end
-unfolding bundle_of
-returns-in_err-end c = record {
-  answer =
-      out _ _ _ _ c.from_residual-in_err-end.ensures.1
-      (go _ c.in_ok-check_size.ensures
-      (go _ (checked_on (kind_fault Sheet) machine_tag (c.new-fields.ensures.bytes ∙ whole _ c.in_ok-check_size.ensures) c.new-fields.ensures.at c.in_ok-machine.ensures.value)
-      (go _ (checked_on (kind_fault WatchTable) watcher_tag (ap (λ x. x.now) c.take_checked.ensures.bytes ∙ c.new-fields.ensures.bytes ∙ whole _ c.in_ok-check_size.ensures) refl c.in_ok-watcher.ensures.value)
-      (go _ (cells_on _ (ap (λ x. x.now) c.take_checked-2.ensures.bytes ∙ ap (λ x. x.now) c.take_checked.ensures.bytes ∙ c.new-fields.ensures.bytes ∙ whole _ c.in_ok-check_size.ensures) c.in_ok-cells.ensures.value)
-      (stop _ (ended_on _ (ap (λ x. x.now) c.take_cells.ensures.bytes ∙ ap (λ x. x.now) c.take_checked-2.ensures.bytes ∙ ap (λ x. x.now) c.take_checked.ensures.bytes ∙ c.new-fields.ensures.bytes ∙ whole _ c.in_ok-check_size.ensures) c.in_err-end.ensures))))));
-  accepts = accepts _;
-}
+returns-in_err-end c =
+    let first = opened _ _ _ c.in_ok-fields.ensures in
+    let second = sound _ _ _ _ _ sheet_fault machine_tag (from_watcher _) _ _ first c.in_ok-machine.ensures c.in_ok-read.ensures in
+    let third = sound _ _ _ _ _ table_fault watcher_tag (from_cells _ _) _ _ second c.in_ok-watcher.ensures c.in_ok-read-2.ensures in
+    let last = good_cells _ _ _ _ _ (from_end _ _ _) _ _ third c.in_ok-take.ensures c.in_ok-cells.ensures in
+    record { answer = out _ _ _ _ c.from_residual-in_err-end.ensures.1 (something_left _ _ _ _ _ _ _ last c.in_err-end.ensures); accepts = accepts _ }
 
 pub returns : goal.returns
-unfolding bundle_of
-returns c = record {
-  answer =
-      go _ c.in_ok-check_size.ensures
-      (go _ (checked_on (kind_fault Sheet) machine_tag (c.new-fields.ensures.bytes ∙ whole _ c.in_ok-check_size.ensures) c.new-fields.ensures.at c.in_ok-machine.ensures.value)
-      (go _ (checked_on (kind_fault WatchTable) watcher_tag (ap (λ x. x.now) c.take_checked.ensures.bytes ∙ c.new-fields.ensures.bytes ∙ whole _ c.in_ok-check_size.ensures) refl c.in_ok-watcher.ensures.value)
-      (go _ (cells_on _ (ap (λ x. x.now) c.take_checked-2.ensures.bytes ∙ ap (λ x. x.now) c.take_checked.ensures.bytes ∙ c.new-fields.ensures.bytes ∙ whole _ c.in_ok-check_size.ensures) c.in_ok-cells.ensures.value)
-      (go _ (ended_on _ (ap (λ x. x.now) c.take_cells.ensures.bytes ∙ ap (λ x. x.now) c.take_checked-2.ensures.bytes ∙ ap (λ x. x.now) c.take_checked.ensures.bytes ∙ c.new-fields.ensures.bytes ∙ whole _ c.in_ok-check_size.ensures) c.in_ok-end.ensures)
-      refl))));
-  accepts = accepts _;
-}
+returns c =
+    let first = opened _ _ _ c.in_ok-fields.ensures in
+    let second = sound _ _ _ _ _ sheet_fault machine_tag (from_watcher _) _ _ first c.in_ok-machine.ensures c.in_ok-read.ensures in
+    let third = sound _ _ _ _ _ table_fault watcher_tag (from_cells _ _) _ _ second c.in_ok-watcher.ensures c.in_ok-read-2.ensures in
+    let last = good_cells _ _ _ _ _ (from_end _ _ _) _ _ third c.in_ok-take.ensures c.in_ok-cells.ensures in
+    record { answer = nothing_left _ _ _ _ _ _ _ last c.in_ok-end.ensures; accepts = accepts _ }

@@ -1,24 +1,25 @@
-use Rattle.std.proofs.Common.{Err, sym, refl, ap, ◌∙◌, inl, inr, arith}
-use Rattle.fields.proofs.Taking.{due_other, due_cut, due_whole, part_long}
+use Rattle.std.proofs.Common.{Err, sym, ap, ◌∙◌, inl, inr}
+use Rattle.std.proofs.lemmas.Result.{err_from_is_err_and}
+use Rattle.fields.proofs.Taking.{due_other, due_here, due_cut, field_whole, differs, agrees, too_short, cut_off, there}
 use Rattle.fields.proofs.Fields.due.Goals as goal
-use Rattle.fields.proofs.Fields.due.Goals.{then-at-bytes-via-then-at-bytes, then-at-bytes-via-else-at-bytes+then-bytes-at}
 
-pub returns-then-at-bytes : goal.returns-then-at-bytes
-returns-then-at-bytes c =
-    let other = due_other _ _ _ (elim c.then-at-bytes.branch [ then-at-bytes-via-then-at-bytes w ↦ inl w.if-at-bytes.true | then-at-bytes-via-else-at-bytes+then-bytes-at w ↦ inr w.if-bytes-at.true ]) in
-    record { value = sym other; at = refl; bytes = refl }
+pub returns-then-ne-clause-value : goal.returns-then-ne-clause-value
+returns-then-ne-clause-value c = sym (due_other _ _ _ (differs _ _ _ _ _ c.first.ensures.value c.ne.ensures c.if-ne.true))
 
-pub returns-then-bytes-at-lt-HEADER : goal.returns-then-bytes-at-lt-HEADER
-returns-then-bytes-at-lt-HEADER c =
-    let cut = due_cut _ _ _ c.if-at-bytes.false c.if-bytes-at.false (inl (omega arith)) in
-    record { value = ap Err c.bundle_fault.ensures ∙ sym cut; at = refl; bytes = refl }
+pub returns-in_default-clause-value : goal.returns-in_default-clause-value
+returns-in_default-clause-value c =
+    let here = agrees _ _ _ _ _ c.first.ensures.value c.ne.ensures c.if-ne.false in
+    ap Err c.in_bundle-cut.ensures ∙ sym (due_cut _ _ _ here.0 here.1 (inl (too_short _ _ c.in_default.len_below)))
 
-pub returns-then-bytes-place : goal.returns-then-bytes-place
-returns-then-bytes-place c =
-    let cut = due_cut _ _ _ c.if-at-bytes.false c.if-bytes-at.false (inr (omega arith)) in
-    record { value = ap Err c.bundle_fault-then-bytes-place.ensures ∙ sym cut; at = refl; bytes = refl }
+pub returns-in_err-content-clause-value : goal.returns-in_err-content-clause-value
+returns-in_err-content-clause-value c =
+    let here = agrees _ _ _ _ _ c.first.ensures.value c.ne.ensures c.if-ne.false in
+    let cut = cut_off _ _ _ _ _ _ _ c.in-len3-up.len_at_least (c.from-len.ensures ∙ c.from_be_bytes.ensures) c.get.ensures.lookup c.ok_or.ensures.value c.in_err-content.was in
+    let gone = err_from_is_err_and c.from_residual.result c.from_residual.ensures.1 in
+    rw (gone.1, gone.2) (ap Err (cut.1 ∙ c.in_bundle-cut.ensures) ∙ sym (due_cut _ _ _ here.0 here.1 (inr cut.0)))
 
-pub returns : goal.returns
-returns c =
-    let whole = due_whole _ _ _ _ _ c.if-at-bytes.false c.if-bytes-at.false c.from-len.ensures c.word_at.ensures c.if-bytes-at-lt-HEADER.false c.if-bytes-place.false in
-    record { value = sym whole; at = part_long _ _ _ c.if-bytes-at-lt-HEADER.false c.if-bytes-place.false; bytes = refl }
+pub returns-clause-value : goal.returns-clause-value
+returns-clause-value c =
+    let here = agrees _ _ _ _ _ c.first.ensures.value c.ne.ensures c.if-ne.false in
+    let whole = there _ _ _ _ _ _ _ c.in-len3-up.len_at_least (c.from-len.ensures ∙ c.from_be_bytes.ensures) c.get.ensures.lookup c.ok_or.ensures.value c.in_ok-content.was in
+    rw (← whole.1) (sym (due_here _ _ _ here.0 here.1 ∙ field_whole _ _ whole.0))

@@ -1,6 +1,7 @@
-use Rattle.std.proofs.Common.{sym, refl, arith, take_all}
+use Rattle.std.proofs.Common.{take, ap, ◌∙◌, arith}
+use Rattle.std.proofs.lemmas.List.{take_min}
 use Rattle.fields.specs.Fields.{most_bundle}
 use Rattle.fields.proofs.Fields.new.Goals as goal
 
-pub returns-then-bytes-lt-MAX_BUNDLE : goal.returns-then-bytes-lt-MAX_BUNDLE
-returns-then-bytes-lt-MAX_BUNDLE c = record { bytes = sym (take_all most_bundle c.args.bytes.now (omega arith)); at = refl }
+pub returns-clause-bytes : goal.returns-clause-bytes
+returns-clause-bytes c = let bytes = c.args.bytes.now in ap (λ n. take n bytes) (omega arith) ∙ take_min most_bundle bytes

@@ -1,5 +1,7 @@
-use Rattle.std.proofs.Common.{sym, arith, take_all}
+use Rattle.std.proofs.Common.{take, ap, ◌∙◌, arith}
+use Rattle.std.proofs.lemmas.List.{take_min}
 use Rattle.line.proofs.Trace.actions.Goals as goal
 
-pub returns-else-len-lt-MAX_TRACE : goal.returns-else-len-lt-MAX_TRACE
-returns-else-len-lt-MAX_TRACE c = record { actions = sym (take_all c.args.self.now.len c.args.self.now.buffer (omega arith)); few = omega arith }
+pub returns-clause-actions : goal.returns-clause-actions
+returns-clause-actions c =
+    let t = c.args.self.now in ap (λ n. take n t.buffer) (omega arith) ∙ take_min t.len t.buffer
