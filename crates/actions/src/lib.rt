@@ -7,7 +7,8 @@ ghost use Rattle.std.specs.Result.{result_err};
 ghost use Rattle.actions.specs.Maps.{IntoActions, identity, image, map_fault, map_meaning};
 ghost use Rattle.actions.specs.Sets.{in_set};
 
-use model::ACTIONS;
+use entries::check_below;
+use model::{ACTIONS, ACTIONS_LEN};
 use refusal::{Fault, Refusal};
 
 /// A set of actions.
@@ -41,7 +42,7 @@ impl ActionSet {
 }
 
 /// The number of entries of a map, one for each action.
-pub const MAP_LEN: usize = ACTIONS as usize;
+pub const MAP_LEN: usize = ACTIONS_LEN;
 
 /// A map from actions to actions.
 #[derive(Clone, Copy, Debug, PartialEq, Eq)]
@@ -82,16 +83,15 @@ impl ActionMap {
 impl TryFrom<&[u8]> for ActionMap {
     type Error = Fault;
 
-    ghost try_from_gives = { λ bytes result. (result_err result ≡ map_fault bytes.now) × IfOk result (λ map. map.table ≡ bytes.now) };
+    ghost try_from_gives = { λ bytes result. (result_err result ≡ map_fault bytes.now)
+        × IfOk result (λ map. map.table ≡ bytes.now) };
 
     fn try_from(bytes: &[u8]) -> Result<ActionMap, Fault> {
         let Ok(table) = <[u8; MAP_LEN]>::try_from(bytes) else {
             return Err(Fault::in_content(Refusal::ContentLength, 0));
         };
-        match table.iter().position(|image| *image >= ACTIONS) {
-            Some(at) => Err(Fault::in_content(Refusal::OutOfRange, at as u32)),
-            None => Ok(ActionMap { table }),
-        }
+        check_below(&table, ACTIONS, 0)?;
+        Ok(ActionMap { table })
     }
 }
 

@@ -10,13 +10,17 @@ ghost use Rattle.std.specs.Prelude.{◌≡◌, IfOk};
 ghost use Rattle.std.specs.List.{filter_map};
 ghost use Rattle.cases.specs.Digits.{byte_value, digit_value, text_bytes};
 
+use arrayvec::ArrayVec;
 use checker::check;
-use std::alloc::{AllocError, Global};
+use input::fill;
+use std::alloc::AllocError;
 use std::io;
-use std::io::Read;
 
-/// The most bytes of the text that is read.
-const TEXT: u64 = 65_536;
+/// The most bytes of the text that is read, and so of a bundle's text and of its digits.
+const TEXT: usize = 65_536;
+
+/// The most bytes that such a text stands for.
+const BYTES: usize = TEXT / 2;
 
 /// The value of a hexadecimal digit.
 fn digit_of(b: u8) -> Option<u8>
@@ -29,11 +33,13 @@ fn digit_of(b: u8) -> Option<u8>
     }
 }
 
-/// The values of the digits of a text.
-fn digits_of(alloc: Global, text: &[u8]) -> Result<Vec<u8>, AllocError>
+/// The values of the digits of a text, or an error where they are more than there is room for.
+fn digits_of(text: &[u8]) -> Result<ArrayVec<u8, TEXT>, AllocError>
     ensures { IfOk result (λ v. v.items ≡ filter_map digit_value text.now) }
 {
-    text.iter().copied().filter_map(digit_of).collect(alloc)
+    let mut digits = ArrayVec::new();
+    digits.extend(text.iter().copied().filter_map(digit_of))?;
+    Ok(digits)
 }
 
 /// The byte of two digits.
@@ -44,32 +50,34 @@ fn byte_of(pair: &[u8; 2]) -> u8
     high % 16 * 16 + low % 16
 }
 
-/// The bytes that a text stands for; a last digit alone makes none.
-fn bytes_of(alloc: Global, text: &[u8]) -> Result<Vec<u8>, AllocError>
+/// The bytes that a text stands for, or an error where there is no room for them. A last digit alone makes none.
+fn bytes_of(text: &[u8]) -> Result<ArrayVec<u8, BYTES>, AllocError>
     ensures { IfOk result (λ v. v.items ≡ text_bytes text.now) }
 {
-    let digits = digits_of(alloc, text)?;
+    let digits = digits_of(text)?;
     let (pairs, _) = digits.as_chunks::<2>();
-    pairs.iter().map(byte_of).collect(alloc)
+    let mut bytes = ArrayVec::new();
+    bytes.extend(pairs.iter().map(byte_of))?;
+    Ok(bytes)
 }
 
 fn main(rt: HostRuntime) -> io::Result<()> {
-    let mut text = Vec::new(rt.alloc());
-    rt.stdin().take(TEXT).read_to_end(&mut text)?;
-    let mut bundle = Vec::new(rt.alloc());
-    for line in text.split_inclusive(|b| *b == b'\n') {
+    let mut text = [0; TEXT];
+    let len = fill(&mut rt.stdin(), &mut text)?;
+    let mut bundle = ArrayVec::<u8, TEXT>::new();
+    for line in text[..len].split_inclusive(|b| *b == b'\n') {
         match line.iter().position(|b| *b == b'#') {
             Some(at) => {
                 let (before, comment) = line.split_at(at);
-                bundle.extend_from_slice(before)?;
+                bundle.extend(before.iter().copied())?;
                 for b in comment {
                     rt.print(char::from(*b))?;
                 }
             }
             None => {
-                bundle.extend_from_slice(line)?;
+                bundle.extend(line.iter().copied())?;
                 if line.ends_with(b"\n") {
-                    println!(rt; "{}", check(&bytes_of(rt.alloc(), &bundle)?))?;
+                    println!(rt; "{}", check(&bytes_of(&bundle)?))?;
                     bundle.clear();
                 }
             }

@@ -44,13 +44,14 @@ fn inspect_bundle(bytes: &[u8]) -> Result<Line, PlacedFault>
 }
 
 /// The line of an inspection to its end, in a new table of so many cells.
-// kept: a machine and a watcher as two parameters, here and below, as the calls of an inspection take them.
+// kept: a machine and a watcher as two parameters, here and below: a struct of the two would be taken apart again at
+// each call of an inspection.
 fn inspect_in<M: Machine, W: Watcher>(machine: &M, watcher: &W, count: u16) -> Result<Line, Refusal>
     requires some { 1 ≤ count }
     requires few { count ≤ most_trace }
     ensures { result ≡ Ok (inspected_line (M.graph machine.now) (W.automaton watcher.now) (replicate count blank)) }
 {
-    // kept: an array of the most cells, of which the first are used, since a library has no heap
+    // kept: an array of the most cells, of which the first are used: a library has no heap, and a search takes a slice.
     let mut table = [BLANK; TABLE];
     inspect(machine, watcher, &mut table[..usize::from(count)])
 }

@@ -1,5 +1,5 @@
 -- Checks one after another: the first fault is that of the first check that finds one.
-use Rattle.std.proofs.Common.{◌≡◌, ℕ, ◌+◌, ◌≤◌, Bool, true, false, cond, List, [], ◌∷◌, Some, None, Option, sym, refl, ap, ◌∙◌, arith}
+use Rattle.std.proofs.Common.{◌≡◌, ℕ, ◌+◌, ◌≤◌, min, nat_le, length, true, false, cond, List, [], ◌∷◌, Some, None, Option, sym, refl, ap, ◌∙◌, arith}
 use Rattle.std.specs.List.{position, position_from}
 use Rattle.std.specs.Option.{option_map, option_or}
 use Rattle.std.proofs.lemmas.Iterator.Adapters.{position_from-zero}
@@ -8,7 +8,7 @@ use Rattle.refusal.specs.declared.Fault.{Fault}
 use Rattle.refusal.specs.declared.Refusal.TheVariants.{ContentLength, OutOfRange}
 use Rattle.refusal.specs.Faults.{fault_in_content}
 use Rattle.entries.specs.Clear.{cond_none}
-use Rattle.entries.specs.Faults.{content_fault, wrong_length, length_fault}
+use Rattle.entries.specs.Faults.{content_fault, wrong_length, length_fault, below_fault}
 
 -- a fault of the length comes before the others
 pub length_first : (base n : ℕ) (rest : Option Fault) → option_or (length_fault base n) rest ≡ cond (wrong_length base n) (content_fault ContentLength 0) rest
@@ -26,21 +26,32 @@ found o rest all f is whole = ap (λ x. option_or x rest) is ∙ whole
 pub passed : (o rest all : Option Fault) → None ≡ o → option_or o rest ≡ all → rest ≡ all
 passed o rest all is whole = ap (λ x. option_or x rest) is ∙ whole
 
--- a check of each byte, from byte a on
-module _ (test : ℕ → Bool) (a : ℕ) (faults : List ℕ → ℕ → Option Fault)
-    (none : (at : ℕ) → faults [] at ≡ None)
-    (more : (x : ℕ) (xs : List ℕ) (at : ℕ) → faults (x ∷ xs) at ≡ cond (test x) (content_fault OutOfRange at) (faults xs (at + 1))) where
-  -- from place i on, the first fault is at the first byte that the test finds
-  from_place : (xs : List ℕ) (i : ℕ) → option_map (λ k. fault_in_content OutOfRange (a + k)) (position_from test i xs) ≡ faults xs (a + i)
-  from_place [] i = sym (none (a + i))
-  from_place (x ∷ xs) i =
-      let next : a + (i + 1) ≡ a + i + 1 = omega arith in
-      let rest : option_map (λ k. fault_in_content OutOfRange (a + k)) (position_from test (i + 1) xs) ≡ faults xs (a + i + 1) = from_place xs (i + 1) ∙ ap (faults xs) next in
-      elim (test x) as (λ t. option_map (λ k. fault_in_content OutOfRange (a + k)) (cond t (Some i) (position_from test (i + 1) xs)) ≡ cond t (content_fault OutOfRange (a + i)) (faults xs (a + i + 1))) [ true ↦ refl | false ↦ rest ]
-      ∙ sym (more x xs (a + i))
+-- a byte as a fault names it
+abbrev pub named : ℕ → Fault
+named at = fault_in_content OutOfRange (min at 4294967295)
 
-  -- the first fault is at the first byte that the test finds
-  pub at_position : (xs : List ℕ) → option_map (λ k. fault_in_content OutOfRange (a + k)) (position test xs) ≡ faults xs a
-  at_position xs =
+module _ (bound : ℕ) where
+  -- from place i on, the first fault is at the first byte that is not below the bound
+  from_place : (xs : List ℕ) (a i : ℕ) → option_map (λ k. named (a + k)) (position_from (nat_le bound) i xs) ≡ below_fault bound xs (a + i)
+  from_place [] a i = refl
+  from_place (x ∷ xs) a i =
+      let next : a + (i + 1) ≡ a + i + 1 = omega arith in
+      let rest : option_map (λ k. named (a + k)) (position_from (nat_le bound) (i + 1) xs) ≡ below_fault bound xs (a + i + 1) = from_place xs a (i + 1) ∙ ap (below_fault bound xs) next in
+      elim (nat_le bound x) as (λ t. option_map (λ k. named (a + k)) (cond t (Some i) (position_from (nat_le bound) (i + 1) xs)) ≡ cond t (Some (named (a + i))) (below_fault bound xs (a + i + 1))) [ true ↦ refl | false ↦ rest ]
+
+  -- the first fault is at the first byte that is not below the bound
+  pub at_position : (xs : List ℕ) (a : ℕ) → option_map (λ k. named (a + k)) (position (nat_le bound) xs) ≡ below_fault bound xs a
+  at_position xs a =
       let first : a + 0 ≡ a = omega arith in
-      ap (option_map (λ k. fault_in_content OutOfRange (a + k))) (position_from-zero test xs) ∙ from_place xs 0 ∙ ap (faults xs) first
+      ap (option_map (λ k. named (a + k))) (position_from-zero (nat_le bound) xs) ∙ from_place xs a 0 ∙ ap (below_fault bound xs) first
+
+  -- a check of each byte, where a fault can name the last of them
+  pub below_is : (faults : List ℕ → ℕ → Option Fault)
+      → ((at : ℕ) → faults [] at ≡ None)
+      → ((x : ℕ) (xs : List ℕ) (at : ℕ) → faults (x ∷ xs) at ≡ cond (nat_le bound x) (content_fault OutOfRange at) (faults xs (at + 1)))
+      → (xs : List ℕ) (a : ℕ) → a + length xs ≤ 4294967295 → below_fault bound xs a ≡ faults xs a
+  below_is faults none more [] a h = sym (none a)
+  below_is faults none more (x ∷ xs) a h =
+      let here : min a 4294967295 ≡ a = omega arith in
+      let rest = below_is faults none more xs (a + 1) (omega arith) in
+      rw (here, rest) (sym (more x xs a))

@@ -1,5 +1,5 @@
 -- The faults that sheets and tables share: of their length, of their size and start, and of their entries.
-use Rattle.std.specs.Prelude.{ℕ, ◌+◌, ◌-◌, ◌/◌, ◌%◌, Bool, cond, not, ◌||◌, List, [], ◌∷◌, ◌++◌, length, Some, None, Option, ◌==◌, nat_le, nat_lt}
+use Rattle.std.specs.Prelude.{ℕ, ◌+◌, ◌-◌, ◌/◌, ◌%◌, min, Bool, cond, not, ◌||◌, List, [], ◌∷◌, ◌++◌, length, Some, None, Option, ◌==◌, nat_le, nat_lt}
 use Rattle.std.specs.Option.{option_or}
 use Rattle.words.specs.Words.{word}
 use Rattle.model.specs.Actions.{action_count}
@@ -8,7 +8,7 @@ use Rattle.refusal.specs.declared.Refusal.{Refusal}
 use Rattle.refusal.specs.declared.Refusal.TheVariants.{ContentLength, OutOfRange, TooMany}
 use Rattle.refusal.specs.Faults.{fault_in_content}
 use Rattle.entries.specs.declared.Entry.{Entry}
-use Rattle.entries.specs.Limits.{most_entries, most_sharing, most_size, entry_length}
+use Rattle.entries.specs.Limits.{most_entries, most_sharing, most_size, entry_length, last_byte}
 use Rattle.entries.specs.Entries.{sharing, entry_list}
 
 -- a fault of a content, at a byte of it
@@ -28,6 +28,12 @@ abbrev pub head_fault : List ℕ → Option Fault
 head_fault bytes =
     cond (word bytes 0 == 0 || nat_lt most_size (word bytes 0)) (content_fault OutOfRange 0)
     (cond (nat_le (word bytes 0) (word bytes 2)) (content_fault OutOfRange 2) None)
+
+-- the first of some bytes, from a byte of the content on, that is not below a bound; past the last byte that a fault can
+-- name, it is at that byte
+abbrev pub below_fault : ℕ → List ℕ → ℕ → Option Fault
+below_fault bound [] at = None
+below_fault bound (b ∷ bs) at = cond (nat_le bound b) (content_fault OutOfRange (min at last_byte)) (below_fault bound bs (at + 1))
 
 -- the fault of the entry at a byte, before which some have its key: a number out of range comes before an entry too many
 abbrev pub entry_fault : ℕ → ℕ → Entry → ℕ → Option Fault

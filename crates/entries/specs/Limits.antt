@@ -25,3 +25,7 @@ entry_length = 5
 -- the bytes of the size and the start, which stand first
 abbrev pub head_length : ℕ
 head_length = 4
+
+-- the last byte that a fault can name
+abbrev pub last_byte : ℕ
+last_byte = 4294967295

@@ -3,7 +3,7 @@
 ghost use Rattle.std.specs.Prelude.{◌≡◌, ◌<◌, min};
 ghost use Rattle.std.specs.Result.{result_err};
 ghost use Rattle.entries.specs.Limits.{most_size};
-ghost use Rattle.entries.specs.Faults.{length_fault, head_fault, entry_fault, first_entry_fault};
+ghost use Rattle.entries.specs.Faults.{length_fault, head_fault, below_fault, entry_fault, first_entry_fault};
 
 use crate::{ENTRY_LEN, Entries, Entry, Key, MAX_ENTRIES, MAX_KEYS, MAX_SHARING, MAX_SIZE};
 use model::ACTIONS;
@@ -35,6 +35,19 @@ pub fn check_head(bytes: &[u8]) -> Result<(), Fault>
     }
 }
 
+/// Checks that each byte is below a bound; the first of them is at byte `at` of the content.
+pub fn check_below(bytes: &[u8], bound: u8, at: u32) -> Result<(), Fault>
+    ensures { result_err result ≡ below_fault bound bytes.now at }
+{
+    match bytes.iter().position(|byte| *byte >= bound) {
+        Some(place) => {
+            let place = u32::try_from(place).unwrap_or(u32::MAX);
+            Err(Fault::in_content(Refusal::OutOfRange, at.saturating_add(place)))
+        }
+        None => Ok(()),
+    }
+}
+
 /// Checks the entry at a byte, before which `seen` have its key.
 fn check_entry(entry: Entry, size: u16, seen: u16, at: u32) -> Result<(), Fault>
     requires { at < 100000 }
@@ -56,7 +69,8 @@ fn check_entry(entry: Entry, size: u16, seen: u16, at: u32) -> Result<(), Fault>
 impl<'a> Entries<'a> {
     /// Checks the entries, whose sources and targets are below the size; a size over 1,024 counts as 1,024.
     pub fn check<K: Key>(self, size: u16) -> Result<(), Fault>
-        ensures { result_err result ≡ first_entry_fault K.key (min size most_size) self.entry.bytes.now self.entry.base }
+        ensures { result_err result
+            ≡ first_entry_fault K.key (min size most_size) self.entry.bytes.now self.entry.base }
     {
         let size = size.min(MAX_SIZE);
         let mut counts = [0u16; MAX_KEYS];

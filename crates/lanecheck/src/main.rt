@@ -19,7 +19,7 @@ fn main(rt: HostRuntime) -> io::Result<()> {
 
 /// Reads, calls and prints.
 fn run(rt: &HostRuntime) -> io::Result<()> {
-    // kept: an array and the length of what was read, since this program has no heap
+    // kept: an array and the length of what was read: this program has no heap, and `fill` reads into a slice.
     let mut room = empty_room();
     let len = fill(&mut rt.stdin(), &mut room)?;
     let line = check(&room[..len]);

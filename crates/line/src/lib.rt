@@ -25,7 +25,8 @@ pub fn letter_of(action: u8) -> char
 }
 
 /// The actions of a run, printed as their letters.
-// kept: a fixed buffer and its length, since the libraries use no heap and a line owns its trace.
+// kept: a fixed buffer and its length, since a library has no heap, a line owns its trace, and `inspection` writes the
+// trace into a buffer that is lent.
 #[derive(Debug, Drop)]
 pub struct Trace {
     buffer: [u8; MAX_TRACE],
@@ -61,8 +62,8 @@ impl fmt::Display for Trace {
 }
 
 /// What a check came to: the verdict with its counts, and the run where one is condemned; or the fault of the bundle.
-// kept: `opened` and `found` in each variant, since a struct of the two would stand in every pattern and in every
-// definition of what a line says, and only the printing treats them as one.
+// kept: `opened` and `found` in each variant, since a struct of the two would be no plainer: it would stand in every
+// pattern, and in every definition of what a line says.
 #[derive(Debug, Drop)]
 pub enum Line {
     Broken {

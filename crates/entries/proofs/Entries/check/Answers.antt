@@ -18,38 +18,11 @@ loop-i-init g c =
     let at : base + 0 ≡ base = omega arith in
     record {
       so_far = refl;
+      few = omega arith;
       first = ap (entries_fault g.K.Key.key c.min-size.result [] (entry_list b base)) at;
       long = refl;
       counted = λ s h. no_counts (key_at g.K.Key.key b base) (replicate 16384 0) (zeros 16384) s;
     }
-
-pub overflow_cast-at-in-loop-i : goal.overflow_cast-at-in-loop-i
-overflow_cast-at-in-loop-i g c =
-    let b = c.args.self.bytes.now in
-    let base = c.args.self.base in
-    let t = turn b base c.iter-entry-items.result c.iter-entry-items.ensures c.loop-i.yielded c.loop-i.entry-iterator c.loop-i.yielded_by _ c.next.new.self c.in-Some.entry c.in-Some.is c.next.ensures.steps in
-    omega (arith, t.there, c.loop-i.invariant.so_far, c.from.ensures, count_few b base)
-
-pub overflow_mul-at : goal.overflow_mul-at
-overflow_mul-at g c =
-    let b = c.args.self.bytes.now in
-    let base = c.args.self.base in
-    let t = turn b base c.iter-entry-items.result c.iter-entry-items.ensures c.loop-i.yielded c.loop-i.entry-iterator c.loop-i.yielded_by _ c.next.new.self c.in-Some.entry c.in-Some.is c.next.ensures.steps in
-    omega (arith, t.there, c.loop-i.invariant.so_far, c.from.ensures, count_few b base)
-
-pub overflow_add-at : goal.overflow_add-at
-overflow_add-at g c =
-    let b = c.args.self.bytes.now in
-    let base = c.args.self.base in
-    let t = turn b base c.iter-entry-items.result c.iter-entry-items.ensures c.loop-i.yielded c.loop-i.entry-iterator c.loop-i.yielded_by _ c.next.new.self c.in-Some.entry c.in-Some.is c.next.ensures.steps in
-    omega (arith, t.there, c.loop-i.invariant.so_far, c.from.ensures, count_few b base)
-
-pub check_entry-requires : goal.check_entry-requires
-check_entry-requires g c =
-    let b = c.args.self.bytes.now in
-    let base = c.args.self.base in
-    let t = turn b base c.iter-entry-items.result c.iter-entry-items.ensures c.loop-i.yielded c.loop-i.entry-iterator c.loop-i.yielded_by _ c.next.new.self c.in-Some.entry c.in-Some.is c.next.ensures.steps in
-    omega (arith, t.there, c.loop-i.invariant.so_far, c.from.ensures, count_few b base)
 
 pub returns-in_err-check_entry : goal.returns-in_err-check_entry
 returns-in_err-check_entry g c =
@@ -66,13 +39,6 @@ returns-in_err-check_entry g c =
     let at-is : c.from.result + 5 * i ≡ base + 5 * i = omega (arith, c.from.ensures) in
     let p = err_from_is_err_and c.from_residual.result c.from_residual.ensures.1 in
     rw (p.1, p.2) (fault_here g.K.Key.key b base size i 16384 c.loop-i.counts room c.loop-i.invariant.counted there c.in-Some.entry c.of-key.result c.unwrap_or-seen.result _ is c.of-key.ensures seen-is at-is c.in_err-check_entry.field-0.0 c.in_err-check_entry.ensures ∙ c.loop-i.invariant.first ∙ ap (λ n. first_entry_fault g.K.Key.key n b base) c.min-size.ensures)
-
-pub overflow_step-i : goal.overflow_step-i
-overflow_step-i g c =
-    let b = c.args.self.bytes.now in
-    let base = c.args.self.base in
-    let t = turn b base c.iter-entry-items.result c.iter-entry-items.ensures c.loop-i.yielded c.loop-i.entry-iterator c.loop-i.yielded_by _ c.next.new.self c.in-Some.entry c.in-Some.is c.next.ensures.steps in
-    omega (arith, t.there, c.loop-i.invariant.so_far, c.from.ensures, count_few b base)
 
 pub loop-i-preserved : goal.loop-i-preserved
 loop-i-preserved g c =
@@ -91,6 +57,7 @@ loop-i-preserved g c =
     let low = key_counted g.K.Key.key b base size i 16384 c.loop-i.counts room c.loop-i.invariant.counted there c.in-Some.entry c.of-key.result c.unwrap_or-seen.result _ is c.of-key.ensures seen-is at-is none in
     record {
       so_far = omega (arith, c.loop-i.invariant.so_far, length_push c.loop-i.yielded c.in-Some.entry);
+      few = omega (arith, there, count_few b base);
       first = fault_later g.K.Key.key b base size i 16384 c.loop-i.counts room c.loop-i.invariant.counted there c.in-Some.entry c.of-key.result c.unwrap_or-seen.result _ is c.of-key.ensures seen-is at-is none ∙ c.loop-i.invariant.first;
       long = length-set _ _ _ ∙ c.loop-i.invariant.long;
       counted = counts_more (key_at g.K.Key.key b base) i c.of-key.result 16384 c.loop-i.counts (key_is g.K.Key.key b base i c.of-key.result c.in-Some.entry is c.of-key.ensures) low c.loop-i.invariant.long c.loop-i.invariant.counted;
