@@ -62,6 +62,7 @@ fn bytes_of(text: &[u8]) -> Result<ArrayVec<u8, BYTES>, AllocError>
 }
 
 fn main(rt: HostRuntime) -> io::Result<()> {
+    // kept: an array and the length of what was read: this program has no heap, and `fill` reads into a slice.
     let mut text = [0; TEXT];
     let len = fill(&mut rt.stdin(), &mut text)?;
     let mut bundle = ArrayVec::<u8, TEXT>::new();

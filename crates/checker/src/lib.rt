@@ -92,6 +92,7 @@ fn conclude<M: Machine>(
         Verdict::Holds => Ok(Line::Holds { opened, found }),
         Verdict::Full => Ok(Line::Full { opened, found }),
         _ => {
+            // kept: an array of the most actions: a library has no heap, and `trace` writes into a slice.
             let mut buffer = [0; MAX_TRACE];
             let actions = inspection.trace(machine, cells, &mut buffer)?;
             Ok(Line::Broken {

@@ -25,6 +25,7 @@ pub fn size_then_overwrite(bytes: &mut [u8; 4]) -> u32
 }
 
 /// The report of one inspection over one table that is begun, cleared and begun again.
+// kept: a machine, a watcher and cells as parameters, since the calls that it shows take them so.
 pub fn begin_again<M: Machine, W: Watcher>(machine: &M, watcher: &W, cells: &mut [Cell]) -> Report
     ensures report { result ≡ begun_again (M.graph machine.now) (W.automaton watcher.now) cells.old }
     ensures cells { cells.new ≡ cells_begun (M.graph machine.now) (W.automaton watcher.now) cells.old }
