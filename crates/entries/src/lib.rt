@@ -80,8 +80,8 @@ impl<'a> Entries<'a> {
     }
 
     /// Entry `i`, which is there.
-    // kept: beside `get`, since it reads with no test of each place: by `get`, the check of a sheet of 3,072 entries
-    // took 358 thousand instructions, and by this 285 thousand.
+    // kept: beside `get`, which tests each place. Tried: with `get` in its place the bench's `ways` takes 4,067 million
+    // instructions, more than the 4,056 million that it may take (docs/speed.md).
     pub(crate) fn present(self, i: u16) -> Entry
         requires { i < entry_count self.bytes.now self.base }
         ensures { result ≡ entry_number self.entry.bytes.now self.entry.base i }
