@@ -32,10 +32,11 @@ pub fn read(bytes: &[u8]) -> Result<Parts<'_>, PlacedFault>
 {
     let mut fields = Fields::try_from(bytes)?;
     let machine = fields.take(b'M')?;
-    machine.read(sheet::check)?;
+    machine.placed(sheet::check(machine.content))?;
     let watcher = fields.take(b'W')?;
-    watcher.read(watch_table::check)?;
-    let cells = fields.take(b'T')?.read(cell_count)?;
+    watcher.placed(watch_table::check(watcher.content))?;
+    let table = fields.take(b'T')?;
+    let cells = table.placed(cell_count(table.content))?;
     fields.end()?;
     Ok(Parts {
         machine: machine.content,

@@ -4,8 +4,7 @@
 
 #![tactic(auto)]
 
-ghost use Rattle.std.specs.Prelude.{◌≡◌, ◌≤◌, IfOk, Result, length, option_map, take};
-ghost use Rattle.refusal.specs.declared.Fault.{Fault};
+ghost use Rattle.std.specs.Prelude.{◌≡◌, ◌≤◌, IfOk, length, option_map, take};
 ghost use Rattle.fields.specs.Fields.{at_place, due_at, ended, most_bundle, moved, needed, piece, sized, stood, told};
 
 use refusal::{Fault, PlacedFault, Refusal};
@@ -24,15 +23,11 @@ pub struct Field<'a> {
 }
 
 impl<'a> Field<'a> {
-    /// What `reader` makes of the content, or the fault that it finds in it, placed where the content begins.
-    pub fn read<T, R: FnOnce(&'a [u8]) -> Result<T, Fault>>(
-        self,
-        reader: R,
-    ) -> Result<T, PlacedFault>
-        requires { R.pre reader self.content }
-        ensures { (r : Result T Fault) × R.post reader self.entry.content r × (result ≡ at_place self.entry.place r) }
+    /// What was made of the content, or the fault that was found in it, placed where the content begins.
+    pub fn placed<T>(self, made: Result<T, Fault>) -> Result<T, PlacedFault>
+        ensures { result ≡ at_place self.entry.place made }
     {
-        reader(self.content).map_err(|fault| fault.at(self.place))
+        made.map_err(|fault| fault.at(self.place))
     }
 }
 
