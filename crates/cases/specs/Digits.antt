@@ -1,6 +1,5 @@
 -- Hexadecimal digits.
 use Rattle.std.specs.Prelude.{ℕ, ◌+◌, ◌-◌, ◌*◌, ◌/◌, ◌%◌, cond, ◌&&◌, List, Some, None, Option, nat_le, length, map, get_or}
-use Rattle.std.specs.List.{filter_map}
 use Rattle.std.specs.Simd.{first_chunks}
 
 -- the value of a digit, `0` to `9` or `A` to `F`
@@ -14,7 +13,3 @@ byte_value pair = get_or pair 0 0 % 16 * 16 + get_or pair 1 0 % 16
 -- the bytes that digits make, two each; a last one alone makes none
 abbrev pub paired : List ℕ → List ℕ
 paired digits = map byte_value (first_chunks 2 (length digits / 2) digits)
-
--- the bytes that a text stands for
-abbrev pub text_bytes : List ℕ → List ℕ
-text_bytes text = paired (filter_map digit_value text)

@@ -6,20 +6,18 @@
 
 #![tactic(auto)]
 
-ghost use Rattle.std.specs.Prelude.{◌≡◌, IfOk};
+ghost use Rattle.std.specs.Prelude.{◌≡◌, ◌≤◌, length, take};
 ghost use Rattle.std.specs.List.{filter_map};
-ghost use Rattle.cases.specs.Digits.{byte_value, digit_value, text_bytes};
+ghost use Rattle.cases.specs.Digits.{byte_value, digit_value, paired};
 
-use arrayvec::ArrayVec;
 use checker::check;
 use input::fill;
-use std::alloc::AllocError;
 use std::io;
 
-/// The most bytes of the text that is read, and so of a bundle's text and of its digits.
+/// The most bytes of the text that is read, and so of a bundle's digits.
 const TEXT: usize = 65_536;
 
-/// The most bytes that such a text stands for.
+/// The most bytes that such digits make.
 const BYTES: usize = TEXT / 2;
 
 /// The value of a hexadecimal digit.
@@ -33,13 +31,21 @@ fn digit_of(b: u8) -> Option<u8>
     }
 }
 
-/// The values of the digits of a text, or an error where they are more than there is room for.
-fn digits_of(text: &[u8]) -> Result<ArrayVec<u8, TEXT>, AllocError>
-    ensures { IfOk result (λ v. v.items ≡ filter_map digit_value text.now) }
+/// Writes the values of the digits of a text at the front of `room`, as many as there is room for; answers how many.
+fn digits_of(text: &[u8], room: &mut [u8]) -> usize
+    ensures within { result ≤ length room.new }
+    ensures digits { take result room.new ≡ take (length room.old) (filter_map digit_value text.now) }
 {
-    let mut digits = ArrayVec::new();
-    digits.extend(text.iter().copied().filter_map(digit_of))?;
-    Ok(digits)
+    let mut len = 0;
+    for b in text {
+        if let Some(digit) = digit_of(*b) {
+            if len < room.len() {
+                room[len] = digit;
+                len += 1;
+            }
+        }
+    }
+    len
 }
 
 /// The byte of two digits.
@@ -50,36 +56,45 @@ fn byte_of(pair: &[u8; 2]) -> u8
     high % 16 * 16 + low % 16
 }
 
-/// The bytes that a text stands for, or an error where there is no room for them. A last digit alone makes none.
-fn bytes_of(text: &[u8]) -> Result<ArrayVec<u8, BYTES>, AllocError>
-    ensures { IfOk result (λ v. v.items ≡ text_bytes text.now) }
+/// Writes the bytes of digits, two each, at the front of `room`, as many as there is room for; answers how many. A
+/// last digit alone makes none.
+fn bytes_of(digits: &[u8], room: &mut [u8]) -> usize
+    ensures within { result ≤ length room.new }
+    ensures bytes { take result room.new ≡ take (length room.old) (paired digits.now) }
 {
-    let digits = digits_of(text)?;
     let (pairs, _) = digits.as_chunks::<2>();
-    let mut bytes = ArrayVec::new();
-    bytes.extend(pairs.iter().map(byte_of))?;
-    Ok(bytes)
+    let mut len = 0;
+    for pair in pairs {
+        if len < room.len() {
+            room[len] = byte_of(pair);
+            len += 1;
+        }
+    }
+    len
 }
 
 fn main(rt: HostRuntime) -> io::Result<()> {
-    // kept: an array and the length of what was read: this program has no heap, and `fill` reads into a slice.
+    // kept: three arrays, each with the length of what it holds: this program has no heap, and `fill` reads into a slice.
     let mut text = [0; TEXT];
+    let mut digits = [0; TEXT];
+    let mut bytes = [0; BYTES];
     let len = fill(&mut rt.stdin(), &mut text)?;
-    let mut bundle = ArrayVec::<u8, TEXT>::new();
+    let mut count = 0;
     for line in text[..len].split_inclusive(|b| *b == b'\n') {
         match line.iter().position(|b| *b == b'#') {
             Some(at) => {
                 let (before, comment) = line.split_at(at);
-                bundle.extend(before.iter().copied())?;
+                count += digits_of(before, &mut digits[count..]);
                 for b in comment {
                     rt.print(char::from(*b))?;
                 }
             }
             None => {
-                bundle.extend(line.iter().copied())?;
+                count += digits_of(line, &mut digits[count..]);
                 if line.ends_with(b"\n") {
-                    println!(rt; "{}", check(&bytes_of(&bundle)?))?;
-                    bundle.clear();
+                    let len = bytes_of(&digits[..count], &mut bytes);
+                    println!(rt; "{}", check(&bytes[..len]))?;
+                    count = 0;
                 }
             }
         }

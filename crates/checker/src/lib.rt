@@ -5,6 +5,7 @@
 ghost use Rattle.std.specs.Prelude.{◌≡◌, ◌≤◌, length, replicate, Ok};
 ghost use Rattle.inspection.specs.Cells.{blank};
 ghost use Rattle.line.specs.Lines.{most_trace};
+ghost use Rattle.refusal.specs.Faults.{fault_in_bundle};
 ghost use Rattle.bundle.specs.Bundles.{bundle_of};
 ghost use Rattle.checker.specs.Checked.{checked, inspected_line, or_fault, or_refused, verdict_line};
 ghost use Rattle.checker.specs.Judged.{Judged};
@@ -40,7 +41,14 @@ fn inspect_bundle(bytes: &[u8]) -> Result<Line, PlacedFault>
     let machine = Sheet::new(parts.machine);
     let watcher = WatchTable::new(parts.watcher);
     let answer = inspect_in(&machine, &watcher, parts.cells);
-    answer.map_err(|refusal| PlacedFault::in_bundle(refusal, 0))
+    answer.map_err(refused)
+}
+
+/// The fault of a refused call.
+fn refused(refusal: Refusal) -> PlacedFault
+    ensures { result ≡ fault_in_bundle refusal 0 }
+{
+    PlacedFault::in_bundle(refusal, 0)
 }
 
 /// The line of an inspection to its end, in a new table of so many cells.

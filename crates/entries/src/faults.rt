@@ -1,11 +1,17 @@
 //! The faults that sheets and tables share: of their length, of their size and start, and of their entries.
 
-ghost use Rattle.std.specs.Prelude.{◌≡◌, ◌<◌, min};
+ghost use Rattle.std.specs.Prelude.{◌≡◌, ◌<◌, ◌≤◌, min};
 ghost use Rattle.std.specs.Result.{result_err};
-ghost use Rattle.entries.specs.Limits.{most_size};
+ghost use Rattle.model.specs.Actions.{action_count};
+ghost use Rattle.entries.specs.declared.Entry.{Entry};
+ghost use Rattle.entries.specs.Entries.{source_key};
+ghost use Rattle.entries.specs.Limits.{most_keys, most_size};
 ghost use Rattle.entries.specs.Faults.{length_fault, head_fault, below_fault, entry_fault, first_entry_fault};
 
-use crate::{ENTRY_LEN, Entries, Entry, Key, MAX_ENTRIES, MAX_KEYS, MAX_SHARING, MAX_SIZE};
+use crate::{
+    BySource, ENTRY_LEN, Entries, Entry, Key, MAX_ENTRIES, MAX_KEYS, MAX_SHARING, MAX_SIZE,
+    SOURCE_PLACES,
+};
 use model::ACTIONS;
 use refusal::{Fault, Refusal};
 use words::word_at;
@@ -72,8 +78,26 @@ impl<'a> Entries<'a> {
         ensures { result_err result
             ≡ first_entry_fault K.key (min size most_size) self.entry.bytes.now self.entry.base }
     {
-        let size = size.min(MAX_SIZE);
-        let mut counts = [0u16; MAX_KEYS];
+        self.check_counted::<K, MAX_KEYS>(size.min(MAX_SIZE))
+    }
+
+    /// Checks the entries as `check` does where the source is their key, with no more to count than there are sources.
+    pub fn check_by_source(self, size: u16) -> Result<(), Fault>
+        ensures { result_err result
+            ≡ first_entry_fault source_key (min size most_size) self.entry.bytes.now self.entry.base }
+    {
+        self.check_counted::<BySource, SOURCE_PLACES>(size.min(MAX_SIZE))
+    }
+
+    /// Checks the entries, whose keys, where the entry is in range, are below N: how many have each is counted.
+    // never inlined, so that the counts are in the frame of no call that is refused before it comes here
+    #[inline(never)]
+    fn check_counted<K: Key, const N: usize>(self, size: u16) -> Result<(), Fault>
+        requires keys { (e : Entry) → e.from < size → e.action < action_count → K.key e < N }
+        requires few { N ≤ most_keys }
+        ensures { result_err result ≡ first_entry_fault K.key size self.entry.bytes.now self.entry.base }
+    {
+        let mut counts = [0u16; N];
         for (i, entry) in self.iter().enumerate() {
             let key = K::of(entry) as usize;
             let at = u32::from(self.base) + ENTRY_LEN as u32 * i as u32;

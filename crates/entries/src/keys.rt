@@ -23,6 +23,7 @@ pub trait Key {
 }
 
 /// The source is the key.
+#[derive(Clone, Copy, Debug, PartialEq, Eq)]
 pub struct BySource;
 
 impl Key for BySource {
@@ -38,6 +39,7 @@ impl Key for BySource {
 }
 
 /// The source and the action are the key: 16 times the source, and the action.
+#[derive(Clone, Copy, Debug, PartialEq, Eq)]
 pub struct BySourceAndAction;
 
 impl Key for BySourceAndAction {

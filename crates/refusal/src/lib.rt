@@ -87,6 +87,25 @@ impl From<Layer> for u8 {
     }
 }
 
+impl Refusal {
+    /// The number by which the refusal is known and printed. It is that of `u8::from`, for which a caller's crate would
+    /// have to depend on this one.
+    pub fn number(self) -> u8
+        ensures { result ≡ number self }
+    {
+        u8::from(self)
+    }
+}
+
+impl Layer {
+    /// The number by which the layer is known and printed, as `Refusal::number` is that of a refusal.
+    pub fn number(self) -> u8
+        ensures { result ≡ layer_number self }
+    {
+        self.into()
+    }
+}
+
 impl Fault {
     /// A fault of a content, at a byte of it.
     pub fn in_content(refusal: Refusal, byte: u32) -> Fault
